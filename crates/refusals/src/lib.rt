@@ -1,0 +1,2 @@
+// What a call that reads texts refuses, and the line that tells it.
+pub mod fault;
