@@ -1,0 +1,1 @@
+// The meaning of the game, as definitions: specs/ holds all of it, and no code is needed.

@@ -1,0 +1,3 @@
+// Rules and programs as values, with the limits that every program keeps.
+pub mod program;
+pub mod rule;
