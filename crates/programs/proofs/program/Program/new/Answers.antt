@@ -9,7 +9,7 @@ use Rattle.programs.specs.Model.{model, models}
 use Rattle.programs.proofs.program.Program.new.Needs as need
 
 pub returns-then-len-gt256 : need.returns-then-len-gt256
-returns-then-len-gt256 g c = and-left _ _ (lt-leb _ _ (omega (arith, length-map (vec-items (c .args .rules)) model, c .args .rules .ok .0)))
+returns-then-len-gt256 g c = and-left _ _ (lt-leb (length (models (vec-items (c .args .rules)))) 256 (omega (arith, length-map (vec-items (c .args .rules)) model, c .args .rules .ok .0)))
 
 pub ghost-result : need.ghost-result
 ghost-result g c =
