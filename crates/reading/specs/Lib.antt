@@ -1,0 +1,4 @@
+pub mod Classes
+pub mod Lexical
+pub mod Tokens
+pub mod Steps

@@ -1,0 +1,4 @@
+// Reads one text: characters, tokens, rules, and the table of atoms.
+mod classes;
+mod phase;
+pub mod token;
