@@ -1,6 +1,6 @@
 -- What the lexer's answers say.
 use mathlib.Core.Path.{_≡_}
-use Prim.Native.Nat.{ℕ}
+use Prim.Native.Nat.{ℕ, _<_}
 use Rattle.std.specs.declared.option.Option.{Option}
 use Rattle.std.specs.declared.option.Option.the-variants.{Some, None}
 use Rattle.std.specs.declared.result.Result.{Result}
@@ -37,3 +37,9 @@ Tells t l now (Err f) = lexical-fault t l ≡ Some f
 abbrev pub Tells-at : Text → ℕ → Lexed → Result (Token × ℕ) Fault → Type 0
 Tells-at t at l (Ok s) = l ≡ token at (s .1) (word-of (s .0))
 Tells-at t at l (Err f) = lexical-fault t l ≡ Some f
+
+-- a token takes the lexer on
+abbrev pub Moves : ℕ → ℕ → Result (Option Spot) Fault → Type 0
+Moves was now (Ok None) = Unit {0}
+Moves was now (Ok (Some s)) = was < now
+Moves was now (Err f) = Unit {0}

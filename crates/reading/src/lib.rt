@@ -1,4 +1,5 @@
 // Reads one text: characters, tokens, rules, and the table of atoms.
 mod classes;
+mod lexer;
 mod phase;
 pub mod token;
