@@ -2,3 +2,4 @@ pub mod Classes
 pub mod Lexical
 pub mod Tokens
 pub mod Steps
+pub mod Tables

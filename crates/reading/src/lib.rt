@@ -2,4 +2,5 @@
 mod classes;
 mod lexer;
 mod phase;
+pub mod table;
 pub mod token;
