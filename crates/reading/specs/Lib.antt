@@ -3,3 +3,4 @@ pub mod Lexical
 pub mod Tokens
 pub mod Steps
 pub mod Tables
+pub mod States

@@ -1,5 +1,6 @@
 // Reads one text: characters, tokens, rules, and the table of atoms.
 mod classes;
+mod draft;
 mod lexer;
 mod phase;
 pub mod table;
