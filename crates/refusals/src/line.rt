@@ -1,8 +1,12 @@
-// The line that tells a refusal.
+// The line that tells a refusal, as `% refused 5 text 1 byte 1`.
 ghost use Prim.Native.Nat.{_+_, _≤_};
 ghost use lib.ListN.{length};
 ghost use Rattle.std.specs.Written.{decimal};
-ghost use Rattle.refusals.specs.Line.{Put};
+ghost use Rattle.refusals.specs.Line.{Put, line};
+use crate::fault::Fault;
+
+// Twenty-three fixed bytes, and three numbers of at most twenty digits.
+const LONGEST: usize = 83;
 
 // Writes the decimal digits of `number` from `at` on, and gives the place after them.
 fn write_number(number: u64, out: &mut [u8], at: usize) -> usize
@@ -26,4 +30,21 @@ fn write_text(text: &[u8], out: &mut [u8], at: usize) -> usize
     let end = at + text.len();
     out[at..end].copy_from_slice(text);
     end
+}
+
+// Writes the whole line from the start of `out`, and gives its length.
+fn write_line(fault: Fault, out: &mut [u8]) -> usize
+    requires { ⌜ 83 ≤ length (now out) ⌝ }
+    ensures { λ r. ⌜ Put (line fault) (now (out .entry)) 0 (now (out .exit)) r ⌝ }
+{
+    let cause = u64::from(fault.cause());
+    let text = u64::from(fault.text());
+    let byte = fault.byte() as u64;
+    let mut at = write_text(b"% refused ", out, 0);
+    at = write_number(cause, out, at);
+    at = write_text(b" text ", out, at);
+    at = write_number(text, out, at);
+    at = write_text(b" byte ", out, at);
+    at = write_number(byte, out, at);
+    write_text(b"\n", out, at)
 }
