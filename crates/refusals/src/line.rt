@@ -1,8 +1,9 @@
 // The line that tells a refusal, as `% refused 5 text 1 byte 1`.
 ghost use Prim.Native.Nat.{_+_, _≤_};
 ghost use lib.ListN.{length};
+ghost use Rattle.std.specs.Results.{Cases};
 ghost use Rattle.std.specs.Written.{decimal};
-ghost use Rattle.refusals.specs.Line.{Put, line};
+ghost use Rattle.refusals.specs.Line.{Put, Told, Untold, line};
 use crate::fault::Fault;
 
 // Twenty-three fixed bytes, and three numbers of at most twenty digits.
@@ -47,4 +48,17 @@ fn write_line(fault: Fault, out: &mut [u8]) -> usize
     at = write_text(b" byte ", out, at);
     at = write_number(byte, out, at);
     write_text(b"\n", out, at)
+}
+
+// Writes the line and a line feed at the start of `out`, where they fit, and gives their length.
+pub fn refusal_line(fault: Fault, out: &mut [u8]) -> Result<usize, Fault>
+    ensures { λ r. ⌜ Cases r (Told fault (now (out .entry)) (now (out .exit))) (Untold fault (now (out .entry)) (now (out .exit))) ⌝ }
+{
+    let mut line = [0; LONGEST];
+    let length = write_line(fault, &mut line);
+    if out.len() < length {
+        return Err(Fault::NoRoom);
+    }
+    out[0..length].copy_from_slice(&line[0..length]);
+    Ok(length)
 }
