@@ -13,11 +13,12 @@ none xs at h = record { place = omega arith; within = h; upto = rw append-nil; p
 
 pub one : (xs : List ℕ) (at b : ℕ) → at < length xs → Put (b ∷ []) xs at (set xs at b) (at + 1)
 one xs at b h =
-    record
-    { place = refl
-    ; within = rw length-set (omega arith)
-    ; upto = take-more-set xs at b h
-    ; past = drop-set-lt (at + 1) xs at b (omega arith) }
+    record {
+      place = refl;
+      within = rw length-set (omega arith);
+      upto = take-more-set xs at b h;
+      past = drop-set-lt (at + 1) xs at b (omega arith);
+    }
 
 pub both : {bs cs xs ys zs : List ℕ} {at mid end : ℕ} → Put bs xs at ys mid → Put cs ys mid zs end → Put (bs ++ cs) xs at zs end
 both {bs = bs} {cs = cs} {xs = xs} {ys = ys} {at = at} {mid = mid} p q =

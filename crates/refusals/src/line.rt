@@ -81,15 +81,36 @@ mod tests {
 
     #[test]
     fn places() -> Result<(), Fail> {
-        tells(Fault::Misplaced { text: Text::Plan, at: 1 }, b"% refused 5 text 1 byte 1\n")?;
-        tells(Fault::TakenHead { text: Text::Site, at: 16384 }, b"% refused 9 text 3 byte 16384\n")?;
-        tells(Fault::NoToken { text: Text::Faults, at: usize::MAX }, b"% refused 3 text 2 byte 18446744073709551615\n")
+        tells(
+            Fault::Misplaced {
+                text: Text::Plan,
+                at: 1,
+            },
+            b"% refused 5 text 1 byte 1\n",
+        )?;
+        tells(
+            Fault::TakenHead {
+                text: Text::Site,
+                at: 16384,
+            },
+            b"% refused 9 text 3 byte 16384\n",
+        )?;
+        tells(
+            Fault::NoToken {
+                text: Text::Faults,
+                at: usize::MAX,
+            },
+            b"% refused 3 text 2 byte 18446744073709551615\n",
+        )
     }
 
     #[test]
     fn no_places() -> Result<(), Fail> {
         tells(Fault::WrongSide, b"% refused 1 text 0 byte 0\n")?;
-        tells(Fault::LongText { text: Text::Faults }, b"% refused 2 text 2 byte 0\n")?;
+        tells(
+            Fault::LongText { text: Text::Faults },
+            b"% refused 2 text 2 byte 0\n",
+        )?;
         tells(Fault::NoMemory, b"% refused 99 text 0 byte 0\n")
     }
 

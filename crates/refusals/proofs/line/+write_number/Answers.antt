@@ -20,18 +20,21 @@ record Front (n at last : ℕ) (xs ys : List ℕ) : Type 0 where
 
 front-is : (t : ℕ) (c : Joined-number-lt10 t) → Front (c .args .number) (c .args .at) (c .if-number-lt10 .last) (c .args .out .now) (c .if-number-lt10 .out)
 front-is t c =
-    elim (c .if-number-lt10 .came)
-    [ then-number-lt10 w ↦
-        let digit : c .args .number % 10 ≡ c .args .number = omega arith in
-        record
-        { front = []
-        ; whole = search (needs, decimal-digit)
-        ; put = search (needs, none) }
-    | else-number-lt10 w ↦
-        record
-        { front = decimal (c .args .number / 10)
-        ; whole = search (needs, decimal-step)
-        ; put = search needs } ]
+    elim (c .if-number-lt10 .came) [
+      | then-number-lt10 w ↦
+          let digit : c .args .number % 10 ≡ c .args .number = omega arith in
+          record {
+            front = [];
+            whole = search (needs, decimal-digit);
+            put = search (needs, none);
+          }
+      | else-number-lt10 w ↦
+          record {
+            front = decimal (c .args .number / 10);
+            whole = search (needs, decimal-step);
+            put = search needs;
+          }
+    ]
 
 room : (n at last : ℕ) (xs ys : List ℕ) → Front n at last xs ys → last + 1 ≡ at + length (decimal n)
 room n at last xs ys f = omega (arith, simp length-append at (ap length (f .whole)))
