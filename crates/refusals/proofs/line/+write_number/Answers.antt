@@ -3,7 +3,7 @@ use borrow.Author.Needs.{needs}
 use mathlib.Core.Path.{_≡_, ap}
 use mathlib.Core.List.{List, [], _∷_, _++_}
 use native.Mathlib.Omega.{arith}
-use Prim.Native.Nat.{ℕ, _+_, _%_, _/_, _<_}
+use Prim.Native.Nat.{ℕ, _+_, _%_, _/_}
 use lib.ListN.{length, length-append}
 use Rattle.std.specs.Written.{decimal}
 use Rattle.std.proofs.shelf.Decimals.{decimal-digit, decimal-step}
@@ -36,8 +36,8 @@ front-is t c =
           }
     ]
 
-room : (n at last : ℕ) (xs ys : List ℕ) → Front n at last xs ys → last + 1 ≡ at + length (decimal n)
-room n at last xs ys f = omega (arith, simp length-append at (ap length (f .whole)))
+room : {n at last : ℕ} {xs ys : List ℕ} → Front n at last xs ys → last + 1 ≡ at + length (decimal n)
+room f = omega (arith, simp length-append at (ap length (f .whole)))
 
 pub write-number-last-requires : need.write-number-last-requires
 write-number-last-requires t c κs =
@@ -45,13 +45,13 @@ write-number-last-requires t c κs =
     (omega arith, omega (arith, simp length-append at (ap length e)))
 
 pub index-out-last : need.index-out-last
-index-out-last t c = omega (arith, room _ _ _ _ _ (front-is t c))
+index-out-last t c = omega (arith, room (front-is t c))
 
 pub add-result : need.add-result
-add-result t c = omega (arith, room _ _ _ _ _ (front-is t (need.at·add-result t c .Joined-number-lt10)))
+add-result t c = omega (arith, room (front-is t (need.at·add-result t c .Joined-number-lt10)))
 
 pub returns : need.returns
 returns t c =
     let f = front-is t (need.at·returns t c .Joined-number-lt10) in
-    let last = one (c .if-number-lt10 .out) (c .if-number-lt10 .last) (48 + c .args .number % 10) (omega (arith, room _ _ _ _ _ f)) in
+    let last = one (c .if-number-lt10 .out) (c .if-number-lt10 .last) (48 + c .args .number % 10) (omega (arith, room f)) in
     search (needs, both (f .put) last)

@@ -1,3 +1,4 @@
+-- Each piece fits, since a number has at most twenty digits; joined, the pieces are the line.
 use borrow.Author.Needs.{needs}
 use Rattle.std.proofs.shelf.Decimals.{length-decimal-le}
 use Rattle.refusals.specs.Line.{line}
@@ -25,5 +26,7 @@ write-text-requires c κs = search (needs, length-decimal-le 20)
 pub returns : need.returns
 unfolding line
 returns c =
-    let all = both (both (both (both (both (both (c .write-text-at .ensures) (c .write-number-at .ensures)) (c .write-text-at-2 .ensures)) (c .write-number-at-2 .ensures)) (c .write-text-at-3 .ensures)) (c .write-number-at-3 .ensures)) (c .write-text .ensures) in
-    search (needs, all)
+    let cause = both (c .write-text-at .ensures) (c .write-number-at .ensures) in
+    let text = both (both cause (c .write-text-at-2 .ensures)) (c .write-number-at-2 .ensures) in
+    let byte = both (both text (c .write-text-at-3 .ensures)) (c .write-number-at-3 .ensures) in
+    search (needs, both byte (c .write-text .ensures))
