@@ -109,15 +109,15 @@ impl Fault {
 pub impl From<AllocError> for Fault as FaultFromAlloc {
     ghost converts = { λ _ r. r ≡ NoMemory };
 
-    fn from(_e: AllocError) -> Fault {
-        Fault::NoMemory
+    fn from(_e: AllocError) -> Self {
+        Self::NoMemory
     }
 }
 
 pub impl<T: Drop> From<Refused<T>> for Fault as FaultFromRefused {
     ghost converts = { λ _ r. r ≡ NoMemory };
 
-    fn from(_e: Refused<T>) -> Fault {
-        Fault::NoMemory
+    fn from(_e: Refused<T>) -> Self {
+        Self::from(AllocError)
     }
 }
