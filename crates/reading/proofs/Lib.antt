@@ -1,3 +1,4 @@
 pub mod Lexing
 pub mod Entering
 pub mod Stepping
+pub mod Limiting

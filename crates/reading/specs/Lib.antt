@@ -4,3 +4,4 @@ pub mod Tokens
 pub mod Steps
 pub mod Tables
 pub mod States
+pub mod Within
