@@ -2,3 +2,4 @@ pub mod Lexing
 pub mod Entering
 pub mod Stepping
 pub mod Limiting
+pub mod Running

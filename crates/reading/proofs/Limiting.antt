@@ -13,8 +13,8 @@ use Rattle.std.specs.declared.result.Result.the-variants.{Ok, Err}
 use Rattle.std.proofs.shelf.Lists.{length-push}
 use Rattle.std.proofs.shelf.Tests.{ltb-true, leb-false, lt-ltb, true≢false, both-ways}
 use Rattle.game.specs.Rules.{Head, none, atom, Rule}
-use Rattle.programs.specs.Limits.{rule-fits, all-fit}
-use Rattle.programs.proofs.Fitting.{Kept, kept, kept-fits, kept-more, below-push, all-fit-more, all-fit-push}
+use Rattle.programs.specs.Limits.{rule-fits, all-fit, fits}
+use Rattle.programs.proofs.Fitting.{Kept, kept, kept-fits, kept-more, below-push, all-fit-more, all-fit-push, fits-from}
 use Rattle.refusals.specs.declared.fault.Text.{Text}
 use Rattle.refusals.specs.declared.fault.Fault.{Fault}
 use Rattle.refusals.specs.declared.fault.Fault.the-variants.{ManyAtoms}
@@ -189,3 +189,6 @@ step-within t at d x d′ w e = go (follow (d .phase) x) refl e
 -- before the first token
 pub fresh-within : (ss : List Standing) → length ss ≤ 96 → Within (fresh ss)
 fresh-within ss few = record { atoms = few; few = omega arith; rules = refl; rule = refl; room = λ off. absurd (true≢false off); begun = λ off. absurd (no-not Start Start refl refl off) }
+
+pub within-fits : (d : State) → Within d → fits 96 (d .rules) ≡ true
+within-fits d w = fits-from 96 (d .rules) (w .few) (all-fit-more (length (d .atoms)) 96 (d .rules) (w .atoms) (w .rules))

@@ -5,3 +5,4 @@ pub mod Steps
 pub mod Tables
 pub mod States
 pub mod Within
+pub mod Sections

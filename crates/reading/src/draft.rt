@@ -6,15 +6,18 @@ ghost use lib.ListN.{length};
 ghost use Rattle.std.specs.declared.result.Result.the-variants.{Ok};
 ghost use Rattle.std.specs.Of.Vec.{vec-items};
 ghost use Rattle.programs.specs.Model.{model, models};
+ghost use Rattle.reading.specs.Sections.{Finishes};
 ghost use Rattle.reading.specs.States.{state-of, Took, with-put, with-begin, with-close};
-ghost use Rattle.reading.specs.Steps.{fresh, no-rule, step, literals, named, entered, taken, opens-rule, before-literal, of-literal};
+ghost use Rattle.reading.specs.Steps.{fresh, no-rule, step, literals, named, entered, taken, ended, opens-rule, before-literal, of-literal};
 ghost use Rattle.reading.specs.Tables.{standings-of};
 ghost use Rattle.reading.specs.Tokens.{word-of};
+ghost use Rattle.reading.specs.Within.{Within};
 use crate::phase::Phase;
-use crate::phase::PhasePartialEq;
+use crate::section::Section;
 use crate::table::Atoms;
 use crate::token::Spot;
 use crate::token::Token;
+use programs::program::Program;
 use programs::rule::Head;
 use programs::rule::Rule;
 use refusals::fault::Fault;
@@ -174,5 +177,20 @@ impl<'a> Draft<'a> {
             return Err(Fault::LongBody { text, at });
         }
         self.accept(spot, next)
+    }
+
+    // The end of the text, which has this many bytes: question 5 once more.
+    pub(crate) fn finish(self, end: usize) -> Result<(Section, Atoms<'a>), Fault>
+        requires { ⌜ Within (state-of self) ⌝ }
+        ensures { λ r. ⌜ Finishes (ended (self .entry .text) end (state-of (self .entry))) r ⌝ }
+    {
+        let Draft { heap: _, text, phase, begun: _, rule: _, rules, places, atoms } = self;
+        if !phase.opens_rule() {
+            return Err(Fault::Misplaced { text, at: end });
+        }
+        let Some(program) = Program::new(rules) else {
+            unreachable()
+        };
+        Ok((Section { program, places }, atoms))
     }
 }

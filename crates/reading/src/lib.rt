@@ -3,5 +3,7 @@ mod classes;
 mod draft;
 mod lexer;
 mod phase;
+pub mod section;
 pub mod table;
+pub mod text;
 pub mod token;
