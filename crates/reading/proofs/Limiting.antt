@@ -102,6 +102,7 @@ module _ (t : Text) (at b : ℕ) (r : Rule) (rs : List Rule) (ps : List ℕ) (ss
       subst Within (ok-same e) (record {
         atoms = g .few (w .atoms);
         few = w .few;
+        placed = w .placed;
         rules = all-fit-more (length ss) (length ss′) rs (g .longer) (w .rules);
         rule = kept-fits (length ss′) (put p (index n ss) r) (put-kept p (length ss) (length ss′) (index n ss) r (g .longer) (g .has) short (kept (length ss) r (w .rule)));
         room = λ _. few;
@@ -111,7 +112,7 @@ module _ (t : Text) (at b : ℕ) (r : Rule) (rs : List Rule) (ps : List ℕ) (ss
 
   -- only the phase and the place where the rule starts change
   phase-within : (p next : Phase) (b′ : ℕ) (d′ : State) → Within (state p b r rs ps ss) → (next ≡ AfterNot → literals r < 16) → _≡_ {A = Result State Fault} (Ok (state next b′ r rs ps ss)) (Ok d′) → Within d′
-  phase-within p next b′ d′ w begun e = subst Within (ok-same e) (record { atoms = w .atoms; few = w .few; rules = w .rules; rule = w .rule; room = λ _. few; begun = begun })
+  phase-within p next b′ d′ w begun e = subst Within (ok-same e) (record { atoms = w .atoms; few = w .few; placed = w .placed; rules = w .rules; rule = w .rule; room = λ _. few; begun = begun })
 
   close-within : (p : Phase) (d′ : State) → Within (state p b r rs ps ss) → _≡_ {A = Result State Fault} (Ok (state Start b no-rule (rs ++ r ∷ []) (ps ++ b ∷ []) ss)) (Ok d′) → Within d′
   close-within p d′ w e =
@@ -119,6 +120,7 @@ module _ (t : Text) (at b : ℕ) (r : Rule) (rs : List Rule) (ps : List ℕ) (ss
       subst Within (ok-same e) (record {
         atoms = w .atoms;
         few = omega arith;
+        placed = omega (arith, length-push ps b, w .placed);
         rules = all-fit-push (length ss) r rs (w .rule) (w .rules);
         rule = refl;
         room = λ off. absurd (true≢false off);
@@ -188,7 +190,7 @@ step-within t at d x d′ w e = go (follow (d .phase) x) refl e
 
 -- before the first token
 pub fresh-within : (ss : List Standing) → length ss ≤ 96 → Within (fresh ss)
-fresh-within ss few = record { atoms = few; few = omega arith; rules = refl; rule = refl; room = λ off. absurd (true≢false off); begun = λ off. absurd (no-not Start Start refl refl off) }
+fresh-within ss few = record { atoms = few; few = omega arith; placed = refl; rules = refl; rule = refl; room = λ off. absurd (true≢false off); begun = λ off. absurd (no-not Start Start refl refl off) }
 
 pub within-fits : (d : State) → Within d → fits 96 (d .rules) ≡ true
 within-fits d w = fits-from 96 (d .rules) (w .few) (all-fit-more (length (d .atoms)) 96 (d .rules) (w .atoms) (w .rules))

@@ -6,3 +6,4 @@ pub mod Tables
 pub mod States
 pub mod Within
 pub mod Sections
+pub mod Loads

@@ -12,14 +12,17 @@ use Rattle.refusals.specs.declared.fault.Fault.{Fault}
 use Rattle.refusals.specs.declared.fault.Fault.the-variants.{NoMemory}
 use Rattle.reading.specs.declared.section.Section.{Section}
 use Rattle.reading.specs.declared.table.Atoms.{Atoms}
+use Rattle.reading.specs.Loads.{Part, part}
 use Rattle.reading.specs.Steps.{State, Standing, Text-read}
 use Rattle.reading.specs.Tables.{standings-of}
 use Rattle.reading.specs.Within.{Within}
 
+abbrev pub part-of : Section → Part
+part-of s = record { rules = rules-of (s .program); places = vec-items (s .places) }
+
 -- the rules, where they start, and the table of atoms are those of the state
 pub record Shows (d : State) (s : Section) (a : Atoms) : Type 0 where
-  pub rules : rules-of (s .program) ≡ d .rules
-  pub places : vec-items (s .places) ≡ d .places
+  pub section : part-of s ≡ part d
   pub atoms : standings-of a ≡ d .atoms
   pub within : Within d
 

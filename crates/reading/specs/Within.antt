@@ -10,6 +10,7 @@ use Rattle.reading.specs.Steps.{State, opens-rule, literals}
 pub record Within (d : State) : Type 0 where
   pub atoms : length (d .atoms) ≤ 96
   pub few : length (d .rules) ≤ 256
+  pub placed : length (d .places) ≡ length (d .rules)
   pub rules : all-fit (length (d .atoms)) (d .rules) ≡ true
   pub rule : rule-fits (length (d .atoms)) (d .rule) ≡ true
   -- there is room for the rule that goes on
