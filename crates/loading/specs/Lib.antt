@@ -1,0 +1,3 @@
+pub mod Sided
+pub mod Earlier
+pub mod Read

@@ -1,0 +1,2 @@
+-- What reading three texts gives.
+use Rattle.reading.specs.Loads.{Three}
