@@ -3,3 +3,4 @@ pub mod Entering
 pub mod Stepping
 pub mod Limiting
 pub mod Running
+pub mod Growing

@@ -26,7 +26,7 @@ use Rattle.reading.specs.Within.{Within}
 use Rattle.reading.proofs.Entering.{index-bound}
 use Rattle.reading.proofs.Stepping.{crowded, overfull}
 
-err-ok : {X Y : Type 0} {y : Y} {x : X} → _≡_ {A = Result X Y} (Err y) (Ok x) → ⊥
+pub err-ok : {X Y : Type 0} {y : Y} {x : X} → _≡_ {A = Result X Y} (Err y) (Ok x) → ⊥
 err-ok e = let z : _≡_ {A = ℕ} 0 1 = cc in omega arith
 
 none-some : {X : Type 0} {x : X} → _≡_ {A = Option X} None (Some x) → ⊥
@@ -80,7 +80,7 @@ is-not AfterComma = false
 no-not : (p q : Phase) → is-not p ≡ false → _≡_ {A = Option Phase} (Some p) (Some q) → q ≡ AfterNot → ⊥
 no-not p q off led same = both-ways (is-not p) off (ap is-not (sym (some-same led) ∙ same))
 
-ok-same : {X Y : Type 0} {x x′ : X} → _≡_ {A = Result X Y} (Ok x) (Ok x′) → x ≡ x′
+pub ok-same : {X Y : Type 0} {x x′ : X} → _≡_ {A = Result X Y} (Ok x) (Ok x′) → x ≡ x′
 ok-same e = cc
 
 -- the rule that goes on, with an atom more, over a longer table
