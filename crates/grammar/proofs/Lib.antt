@@ -1,0 +1,4 @@
+pub mod Gaps
+pub mod Fronts
+pub mod Lexing
+pub mod Once
