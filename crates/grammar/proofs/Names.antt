@@ -1,0 +1,126 @@
+-- The table of names: a name's number stays when the table grows, and how a name joins it.
+use mathlib.Core.Path.{_≡_, refl, sym, _∙_, ap, subst}
+use mathlib.Core.Bool.{Bool, true, false, cond, _||_}
+use mathlib.Core.List.{List, [], _∷_, _++_}
+use Prim.Native.Nat.{ℕ, suc, _+_, _<_, _≤_}
+use native.Mathlib.Omega.{arith}
+use lib.Dec.{ltb}
+use lib.ListN.{length, length-append}
+use Rattle.std.specs.shelf.Text.{sameBytes}
+use Rattle.std.proofs.shelf.Lists.{map-push, length-push, length-map}
+use Rattle.std.proofs.shelf.Tests.{ltb-true, ltb-false, lt-ltb, or-right, false≢true, cond-true, cond-false}
+use Rattle.std.proofs.shelf.Ways.{tells}
+use Rattle.std.proofs.shelf.Equals.{sameBytes-decides}
+use Rattle.std.specs.declared.result.Result.{Result}
+use Rattle.std.specs.declared.result.Result.the-variants.{Ok, Err}
+use Rattle.refusals.specs.declared.fault.Text.{Text}
+use Rattle.refusals.specs.declared.fault.Fault.{Fault}
+use Rattle.refusals.specs.declared.fault.Fault.the-variants.{ManyAtoms}
+use Rattle.reading.specs.Steps.{Standing, index, entered}
+use Rattle.grammar.specs.Grammar.{Name, known, with-names, number}
+use Rattle.grammar.specs.Accepted.{table, name-of}
+
+pub index-number : (n : Name) (ss : List Standing) → index n ss ≡ number (table ss) n
+index-number n [] = refl
+index-number n (s ∷ ss) = ap (λ k. cond (sameBytes (s .name) n) 0 (suc k)) (index-number n ss)
+
+index-known : (n : Name) (ss : List Standing) → ltb (index n ss) (length ss) ≡ known n (table ss)
+index-known n [] = refl
+index-known n (s ∷ ss) = go (sameBytes (s .name) n) (index-known n ss)
+  where
+    go : (b : Bool) → ltb (index n ss) (length ss) ≡ known n (table ss) → ltb (cond b 0 (suc (index n ss))) (suc (length ss)) ≡ (b || known n (table ss))
+    go true ih = lt-ltb _ _ (omega arith)
+    go false ih = grind (arith, tells)
+
+module _ (n : Name) where
+  known-append : (t u : List Name) → known n t ≡ true → known n (t ++ u) ≡ true
+  known-append [] u k = absurd (false≢true k)
+  known-append (m ∷ t) u k = go (sameBytes m n) k (known-append t u)
+    where
+      go : (b : Bool) → (b || known n t) ≡ true → (known n t ≡ true → known n (t ++ u) ≡ true) → (b || known n (t ++ u)) ≡ true
+      go true k ih = refl
+      go false k ih = ih k
+
+  number-append : (t u : List Name) → known n t ≡ true → number (t ++ u) n ≡ number t n
+  number-append [] u k = absurd (false≢true k)
+  number-append (m ∷ t) u k = go (sameBytes m n) k (number-append t u)
+    where
+      go : (b : Bool) → (b || known n t) ≡ true → (known n t ≡ true → number (t ++ u) n ≡ number t n) → cond b 0 (suc (number (t ++ u) n)) ≡ cond b 0 (suc (number t n))
+      go true k ih = refl
+      go false k ih = ap suc (ih k)
+
+  same : sameBytes n n ≡ true
+  same = sameBytes-decides n n .1 refl
+
+  known-push : (t : List Name) → known n (t ++ n ∷ []) ≡ true
+  known-push [] = ap (λ b. b || false) same
+  known-push (m ∷ t) = or-right (sameBytes m n) _ (known-push t)
+
+  number-push : (t : List Name) → number (t ++ n ∷ []) n ≡ number t n
+  number-push [] = cond-true (sameBytes n n) 0 1 same
+  number-push (m ∷ t) = ap (λ k. cond (sameBytes m n) 0 (suc k)) (number-push t)
+
+-- the table with one name, where it is new
+abbrev join : Name → List Name → List Name
+join n t = cond (known n t) t (t ++ n ∷ [])
+
+module _ (n : Name) (t : List Name) where
+  known-join : known n (join n t) ≡ true
+  known-join = go (known n t) refl
+    where
+      go : (b : Bool) → known n t ≡ b → known n (cond b t (t ++ n ∷ [])) ≡ true
+      go true e = e
+      go false e = known-push n t
+
+  number-join : number (join n t) n ≡ number t n
+  number-join = go (known n t)
+    where
+      go : (b : Bool) → number (cond b t (t ++ n ∷ [])) n ≡ number t n
+      go true = refl
+      go false = number-push n t
+
+  join-longer : length t ≤ length (join n t)
+  join-longer = go (known n t)
+    where
+      go : (b : Bool) → length t ≤ length (cond b t (t ++ n ∷ []))
+      go true = omega arith
+      go false = simp length-push (omega arith)
+
+  -- a name that is known stays, whatever joins
+  keeps : (m : Name) → known m t ≡ true → (known m (join n t) ≡ true) × (number (join n t) m ≡ number t m)
+  keeps m k = go (known n t)
+    where
+      go : (b : Bool) → (known m (cond b t (t ++ n ∷ [])) ≡ true) × (number (cond b t (t ++ n ∷ [])) m ≡ number t m)
+      go true = (k, refl)
+      go false = (known-append m t (n ∷ []) k, number-append m t (n ∷ []) k)
+
+number-kept : (n : Name) (ns t : List Name) → known n t ≡ true → number (with-names t ns) n ≡ number t n
+number-kept n [] t k = refl
+number-kept n (m ∷ ns) t k = let kept = keeps m t n k in number-kept n ns (join m t) (kept .0) ∙ kept .1
+
+-- a name has the number in the end that it has when it comes
+pub number-final : (n : Name) (ns t : List Name) → number (with-names t (n ∷ ns)) n ≡ number t n
+number-final n ns t = number-kept n ns (join n t) (known-join n t) ∙ number-join n t
+
+pub with-names-longer : (ns t : List Name) → length t ≤ length (with-names t ns)
+with-names-longer [] t = omega arith
+with-names-longer (n ∷ ns) t = let more = with-names-longer ns (join n t) in let one = join-longer n t in omega arith
+
+-- how entering a name ends
+pub data Entered (ss : List Standing) (ns : List Name) (r : Result (List Standing) Fault) : Type 0 where
+  joins : (ss′ : List Standing) → r ≡ Ok ss′ → table ss′ ≡ with-names (table ss) ns → (length ss ≤ 96 → length ss′ ≤ 96) → Entered ss ns r
+  full : (f : Fault) → r ≡ Err f → 96 < length (with-names (table ss) ns) → Entered ss ns r
+
+pub enters : (t : Text) (at : ℕ) (n : Name) (ss : List Standing) → Entered ss (n ∷ []) (entered t at n ss)
+enters t at n ss = subst (λ b. Entered ss (n ∷ []) (cond b (Ok ss) new)) (sym (index-known n ss)) (go (known n (table ss)) (ltb (length ss) 96) refl refl)
+  where
+    grown : List Standing
+    grown = ss ++ record { text = t; at = at; name = n } ∷ []
+
+    new : Result (List Standing) Fault
+    new = cond (ltb (length ss) 96) (Ok grown) (Err (ManyAtoms t at))
+
+    go : (k l : Bool) → known n (table ss) ≡ k → ltb (length ss) 96 ≡ l → Entered ss (n ∷ []) (cond k (Ok ss) (cond l (Ok grown) (Err (ManyAtoms t at))))
+    go true l e f = joins ss refl (sym (cond-true (known n (table ss)) _ _ e)) (λ h. h)
+    go false true e f = joins grown refl (map-push name-of ss _ ∙ sym (cond-false (known n (table ss)) _ _ e)) (λ h. simp length-push (omega (arith, ltb-true (length ss) 96 f)))
+    go false false e f = full _ refl (rw (cond-false (known n (table ss)) _ _ e) (simp (length-push, length-map) (omega (arith, ltb-false (length ss) 96 f))))
