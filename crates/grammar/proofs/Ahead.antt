@@ -1,6 +1,7 @@
 -- What may be left of a text after a part of it, in the grammar's words, and how a token takes it on.
 use mathlib.Core.Path.{_≡_, refl, sym, _∙_, ap}
-use mathlib.Core.Bool.{true}
+use mathlib.Core.Bool.{true, false}
+use mathlib.Core.Logic.{_⊎_, inl, inr}
 use mathlib.Core.List.{List, [], _∷_, _++_, map, append-assoc, append-nil}
 use Prim.Native.Nat.{ℕ}
 use Rattle.std.specs.declared.option.Option.{Option}
@@ -146,13 +147,25 @@ pub record Nothing {p : Place} (a : Ahead p) : Type 0 where
   pub no-names : ahead-names a ≡ []
   pub no-rules : (table : List Name) (r : Rule) → outcome table r a ≡ []
 
+pub nothing : Nothing (start [])
+nothing = record { opens = refl; no-words = refl; no-names = refl; no-rules = λ table r. refl }
+
+-- a text may end only where a rule may start
+pub ending : (p : Place) → ((a : Ahead p) × Nothing a) ⊎ (opens-rule (reached p .phase) ≡ false)
+ending Start = inl (start [], nothing)
+ending AfterHead = inr refl
+ending AfterArrow = inr refl
+ending AfterNot = inr refl
+ending AfterLiteral = inr refl
+ending AfterComma = inr refl
+
 -- what is ahead has a first token, if it is not nothing
 pub data Forth {p : Place} (a : Ahead p) : Type 0 where
   over : Nothing a → Forth a
   on : {q : Place} {w : Word} {a′ : Ahead q} → Moves p q a w a′ → Forth a
 
 pub forth : {p : Place} (a : Ahead p) → Forth a
-forth (start []) = over (record { opens = refl; no-words = refl; no-names = refl; no-rules = λ table r. refl })
+forth (start []) = over nothing
 forth (start (fact n ∷ ws)) = on (head-of-fact n ws)
 forth (start (rule None b ∷ ws)) = on (no-head b ws)
 forth (start (rule (Some n) b ∷ ws)) = on (head-of-rule n b ws)

@@ -91,3 +91,12 @@ module _ (text : List ℕ) (from : ℕ) where
           rw (← same-word, ← same-start, ← same-stop) n
       go (the-end f l) = absurd (let z : _≡_ {A = ℕ} 0 1 = cc in omega arith)
       go (neither f g) = absurd (let i : lexical-fault t (token at after w) ≡ Some f = ap (lexical-fault t) (sym e) ∙ g in let z : _≡_ {A = ℕ} 0 1 = cc in omega arith)
+
+  -- an end that is read is a last gap
+  pub end-last : Text → lexed text from ≡ end → Last-gap (drop from text)
+  end-last t e = go (comes t)
+    where
+      go : Comes t → Last-gap (drop from text)
+      go (a-token f n) = absurd (let z : _≡_ {A = ℕ} 0 1 = cc in omega arith)
+      go (the-end f l) = l
+      go (neither f g) = absurd (let i : lexical-fault t end ≡ Some f = ap (lexical-fault t) (sym e) ∙ g in let z : _≡_ {A = ℕ} 0 1 = cc in omega arith)

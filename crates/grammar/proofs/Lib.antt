@@ -6,3 +6,7 @@ pub mod Names
 pub mod Places
 pub mod Stepping
 pub mod Ahead
+pub mod Leads
+pub mod Limits
+pub mod Sound
+pub mod Complete

@@ -102,6 +102,10 @@ number-kept n (m ∷ ns) t k = let kept = keeps m t n k in number-kept n ns (joi
 pub number-final : (n : Name) (ns t : List Name) → number (with-names t (n ∷ ns)) n ≡ number t n
 number-final n ns t = number-kept n ns (join n t) (known-join n t) ∙ number-join n t
 
+pub with-names-append : (ns ms t : List Name) → with-names t (ns ++ ms) ≡ with-names (with-names t ns) ms
+with-names-append [] ms t = refl
+with-names-append (n ∷ ns) ms t = with-names-append ns ms (join n t)
+
 pub with-names-longer : (ns t : List Name) → length t ≤ length (with-names t ns)
 with-names-longer [] t = omega arith
 with-names-longer (n ∷ ns) t = let more = with-names-longer ns (join n t) in let one = join-longer n t in omega arith
@@ -124,3 +128,7 @@ enters t at n ss = subst (λ b. Entered ss (n ∷ []) (cond b (Ok ss) new)) (sym
     go true l e f = joins ss refl (sym (cond-true (known n (table ss)) _ _ e)) (λ h. h)
     go false true e f = joins grown refl (map-push name-of ss _ ∙ sym (cond-false (known n (table ss)) _ _ e)) (λ h. simp length-push (omega (arith, ltb-true (length ss) 96 f)))
     go false false e f = full _ refl (rw (cond-false (known n (table ss)) _ _ e) (simp (length-push, length-map) (omega (arith, ltb-false (length ss) 96 f))))
+
+pub entered-ok : {ss ss′ : List Standing} {ns : List Name} {r : Result (List Standing) Fault} → Entered ss ns r → r ≡ Ok ss′ → (table ss′ ≡ with-names (table ss) ns) × (length ss ≤ 96 → length ss′ ≤ 96)
+entered-ok {ss} {ss′} {ns} (joins new e j few) o = let same : new ≡ ss′ = cc in (rw (← same) j, rw (← same) few)
+entered-ok (full f e many) o = let z : _≡_ {A = ℕ} 0 1 = cc in absurd (omega arith)
