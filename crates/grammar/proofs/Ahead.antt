@@ -161,24 +161,24 @@ ending AfterComma = inr refl
 
 -- what is ahead has a first token, if it is not nothing
 pub data Forth {p : Place} (a : Ahead p) : Type 0 where
-  over : Nothing a → Forth a
-  on : {q : Place} {w : Word} {a′ : Ahead q} → Moves p q a w a′ → Forth a
+  none-left : Nothing a → Forth a
+  begins : {q : Place} {w : Word} {a′ : Ahead q} → Moves p q a w a′ → Forth a
 
 pub forth : {p : Place} (a : Ahead p) → Forth a
-forth (start []) = over nothing
-forth (start (fact n ∷ ws)) = on (head-of-fact n ws)
-forth (start (rule None b ∷ ws)) = on (no-head b ws)
-forth (start (rule (Some n) b ∷ ws)) = on (head-of-rule n b ws)
-forth (after-head None ws) = on (fact-ends ws)
-forth (after-head (Some b) ws) = on (head-arrow b ws)
-forth (after-arrow [] ws) = on (no-body ws)
-forth (after-arrow (plain n ∷ ls) ws) = on (first-plain n ls ws)
-forth (after-arrow (negated n ∷ ls) ws) = on (first-not n ls ws)
-forth (after-not n ls ws) = on (negated-name n ls ws)
-forth (after-literal [] ws) = on (body-ends ws)
-forth (after-literal (l ∷ ls) ws) = on (one-more l ls ws)
-forth (after-comma (plain n) ls ws) = on (next-plain n ls ws)
-forth (after-comma (negated n) ls ws) = on (next-not n ls ws)
+forth (start []) = none-left nothing
+forth (start (fact n ∷ ws)) = begins (head-of-fact n ws)
+forth (start (rule None b ∷ ws)) = begins (no-head b ws)
+forth (start (rule (Some n) b ∷ ws)) = begins (head-of-rule n b ws)
+forth (after-head None ws) = begins (fact-ends ws)
+forth (after-head (Some b) ws) = begins (head-arrow b ws)
+forth (after-arrow [] ws) = begins (no-body ws)
+forth (after-arrow (plain n ∷ ls) ws) = begins (first-plain n ls ws)
+forth (after-arrow (negated n ∷ ls) ws) = begins (first-not n ls ws)
+forth (after-not n ls ws) = begins (negated-name n ls ws)
+forth (after-literal [] ws) = begins (body-ends ws)
+forth (after-literal (l ∷ ls) ws) = begins (one-more l ls ws)
+forth (after-comma (plain n) ls ws) = begins (next-plain n ls ws)
+forth (after-comma (negated n) ls ws) = begins (next-not n ls ws)
 
 -- a token that the grammar allows can stand before whatever is ahead then
 pub data Back (p : Place) (w : Word) : Type 0 where

@@ -17,7 +17,7 @@ use Rattle.grammar.proofs.Gaps.{gap-over, gap-last, gap-clear, Clear, Begins, 
 use Rattle.grammar.proofs.Fronts.{front-spelled, spelled-clear, spelled-long, Front, spelled, refused, front-of}
 
 module _ (text : List ℕ) (from : ℕ) where
-  pub past : (g rest : List ℕ) → drop from text ≡ g ++ rest → drop (from + length g) text ≡ rest
+  past : (g rest : List ℕ) → drop from text ≡ g ++ rest → drop (from + length g) text ≡ rest
   past g rest e = sym (drop-drop (length g) from text) ∙ ap (drop (length g)) e ∙ drop-at g rest (length g) refl
 
   -- the front comes after the gap
@@ -41,11 +41,12 @@ module _ (text : List ℕ) (from : ℕ) where
     pub starts : at ≡ from + length blank
     pub stops : after ≡ at + length (spelling w)
 
+  pub past-word : (g : List ℕ) (w : Word) (rest : List ℕ) → drop from text ≡ g ++ (spelling w ++ rest) → drop (from + length g + length (spelling w)) text ≡ rest
+  past-word g w rest e =
+      sym (drop-drop (length (spelling w)) (from + length g) text) ∙ ap (drop (length (spelling w))) (past g (spelling w ++ rest) e) ∙ drop-at (spelling w) rest (length (spelling w)) refl
+
   pub next : {g : List ℕ} {w : Word} (rest : List ℕ) → drop from text ≡ g ++ (spelling w ++ rest) → Gap g → Proper w → Ends w rest → Next w (from + length g) (from + length g + length (spelling w))
-  next {g} {w} rest e h p s =
-      let after : drop (from + length g + length (spelling w)) text ≡ rest =
-      sym (drop-drop (length (spelling w)) (from + length g) text) ∙ ap (drop (length (spelling w))) (past g (spelling w ++ rest) e) ∙ drop-at (spelling w) rest (length (spelling w)) refl in
-      record { blank = g; skips = h; proper = p; ends = rw after s; bytes = rw after e; starts = refl; stops = refl }
+  next {g} {w} rest e h p s = let after = past-word g w rest e in record { blank = g; skips = h; proper = p; ends = rw after s; bytes = rw after e; starts = refl; stops = refl }
 
   pub lexed-next : {w : Word} {at after : ℕ} → Next w at after → lexed text from ≡ token at after w
   lexed-next {w} {at} {after} n =

@@ -36,3 +36,7 @@ pub record Got : Type 0 where
 
 abbrev pub state : Place → Got → State
 state p g = record { phase = reached p .phase; begun = g .begun; rule = g .rule; rules = g .rules; places = g .places; atoms = g .atoms }
+
+-- before the first token
+abbrev pub none-yet : List Standing → Got
+none-yet before = record { begun = 0; rule = no-rule; rules = []; places = []; atoms = before }

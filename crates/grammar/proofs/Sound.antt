@@ -16,13 +16,13 @@ use Rattle.refusals.specs.declared.fault.Text.{Text}
 use Rattle.refusals.specs.declared.fault.Fault.{Fault}
 use Rattle.refusals.specs.declared.fault.Fault.the-variants.{Misplaced, LongText}
 use Rattle.reading.specs.Lexical.{Word}
-use Rattle.reading.specs.Steps.{State, Standing, opens-rule, no-rule, fresh, step, ended, Reads, ends, no-word, refused, goes}
+use Rattle.reading.specs.Steps.{State, Standing, opens-rule, fresh, step, ended, Reads, ends, no-word, refused, goes}
 use Rattle.grammar.specs.Grammar.{Written, numbered, names, with-names}
 use Rattle.grammar.specs.Spelling.{Spells, done, more, Last-gap, spelling}
 use Rattle.grammar.specs.Accepted.{table, Spelled, Says, Read-is-spelled}
 use Rattle.grammar.proofs.Lexing.{Next, token-next, end-last}
 use Rattle.grammar.proofs.Names.{entered-ok}
-use Rattle.grammar.proofs.Places.{Place, Start, reached, Got, state}
+use Rattle.grammar.proofs.Places.{Place, Start, reached, Got, none-yet, state}
 use Rattle.grammar.proofs.Stepping.{index-of, entries, after, Follows, refused-step, Takes, takes-step}
 use Rattle.grammar.proofs.Ahead.{Ahead, start, ahead-words, Nothing, ending, Back, stuck, leads, back, Moves, moved, outcome-start}
 use Rattle.grammar.proofs.Leads.{Leads, leads-back}
@@ -73,9 +73,6 @@ module _ (t : Text) (text : List ℕ) (d : State) where
   sound (no-word f e) o p g i = let z : _≡_ {A = ℕ} 0 1 = cc in absurd (omega arith)
   sound (refused at after w f e s) o p g i = let z : _≡_ {A = ℕ} 0 1 = cc in absurd (omega arith)
   sound {from} (goes at after w d′ e s x) o p g i = sound-step t text from p g (token-next text from t e) (ap (λ s. step t at s w) (sym i) ∙ s) (λ q g′ j. sound x o q g′ j)
-
-abbrev none-yet : List Standing → Got
-none-yet before = record { begun = 0; rule = no-rule; rules = []; places = []; atoms = before }
 
 -- from the start of a text
 sound-whole : (text : List ℕ) (before : List Standing) (d : State) → length text ≤ 16384 → length before ≤ 96 → Comes-of text 0 Start (none-yet before) d → (ws : List Written) × Spelled text ws × (length (with-names (table before) (names ws)) ≤ 96) × Says before ws d
