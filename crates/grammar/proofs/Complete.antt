@@ -1,34 +1,30 @@
--- What is spelled is read.
-use mathlib.Core.Path.{_≡_, refl, sym, _∙_, ap, subst}
-use mathlib.Core.Bool.{Bool, true, false, cond}
-use mathlib.Core.List.{List, [], _∷_, _++_, map, append-nil}
-use Prim.Native.Nat.{ℕ, _+_, _≤_}
+-- What is spelled from a place on is read there.
+use mathlib.Core.Path.{_≡_, sym, _∙_, ap, subst}
+use mathlib.Core.List.{List, [], _∷_, _++_, append-nil}
+use Prim.Native.Nat.{ℕ, _≤_}
 use native.Mathlib.Omega.{arith}
-use lib.Dec.{leb}
 use lib.ListN.{length, drop}
-use Rattle.std.proofs.shelf.Tests.{le-leb, cond-true, false≢true}
-use Rattle.std.specs.declared.result.Result.{Result}
-use Rattle.std.specs.declared.result.Result.the-variants.{Ok, Err}
+use Rattle.std.proofs.shelf.Tests.{cond-true}
+use Rattle.std.specs.declared.result.Result.the-variants.{Ok}
 use Rattle.game.specs.Rules.{Rule}
 use Rattle.refusals.specs.declared.fault.Text.{Text}
-use Rattle.refusals.specs.declared.fault.Fault.{Fault}
-use Rattle.refusals.specs.declared.fault.Fault.the-variants.{LongText}
 use Rattle.reading.specs.Lexical.{Word}
-use Rattle.reading.specs.Steps.{State, Standing, opens-rule, fresh, ended, Reads, ends, goes}
-use Rattle.grammar.specs.Grammar.{Name, Written, numbered, names, with-names}
+use Rattle.reading.specs.Steps.{State, Standing, opens-rule, ended, Reads, ends, goes}
+use Rattle.grammar.specs.Grammar.{Name, names, with-names}
 use Rattle.grammar.specs.Spelling.{Gap, Last-gap, spelling, Proper, Ends, Spells, done, more}
-use Rattle.grammar.specs.Accepted.{table, Spelled, Says, Spelled-is-read}
+use Rattle.grammar.specs.Accepted.{table}
+use Rattle.grammar.proofs.Never.{never}
 use Rattle.grammar.proofs.Lexing.{Next, next, past-word, lexed-next, lexed-last}
 use Rattle.grammar.proofs.Names.{Entered, joins, full, with-names-append, with-names-longer}
-use Rattle.grammar.proofs.Places.{Place, Start, reached, Got, none-yet, state}
-use Rattle.grammar.proofs.Stepping.{word-names, entry, entries, after, Takes, step-takes}
-use Rattle.grammar.proofs.Ahead.{Ahead, start, ahead-words, ahead-names, Nothing, Forth, none-left, begins, forth, Moves, moved, outcome-start}
+use Rattle.grammar.proofs.Places.{Place, reached, Got, state}
+use Rattle.grammar.proofs.Stepping.{word-names, entry, entries, after, step-takes}
+use Rattle.grammar.proofs.Ahead.{Ahead, ahead-words, ahead-names, Nothing, Forth, none-left, begins, forth, Moves, moved}
 use Rattle.grammar.proofs.Leads.{Leads, leads-on}
-use Rattle.grammar.proofs.Limits.{Fine, passes, fine-numbered}
+use Rattle.grammar.proofs.Limits.{Fine, passes}
 
 module _ (t : Text) (text : List ℕ) (atoms : List Name) (all : List Rule) (few : length atoms ≤ 96) (fine : Fine all) where
   -- reading goes on from here, and comes to the atoms and the rules
-  abbrev Read-on : ℕ → State → Type 0
+  abbrev pub Read-on : ℕ → State → Type 0
   Read-on from s = (d : State) × Reads t text from s (Ok d) × (table (d .atoms) ≡ atoms) × (d .rules ≡ all)
 
   module _ (from : ℕ) {p : Place} (g : Got) {a : Ahead p} (led : Leads atoms all g a) where
@@ -48,18 +44,18 @@ module _ (t : Text) (text : List ℕ) (atoms : List Name) (all : List Rule) (few
             let room = with-names-longer (ahead-names a′) (with-names (table (g .atoms)) (word-names w)) in
             absurd (omega (arith, ap length ends-as))
 
-    complete-move : {q : Place} {w : Word} {a′ : Ahead q} {at after′ : ℕ} → Moves p q a w a′ → Next text from w at after′ → ((g′ : Got) → Leads atoms all g′ a′ → Read-on after′ (state q g′)) → Read-on from (state p g)
-    complete-move {q} {w} {a′} {at} {after′} m n on =
+    complete-move : {q : Place} {w : Word} {a′ : Ahead q} {at stop : ℕ} → Moves p q a w a′ → Next text from w at stop → ((g′ : Got) → Leads atoms all g′ a′ → Read-on stop (state q g′)) → Read-on from (state p g)
+    complete-move {q} {w} {a′} {at} {stop} m n on =
         let (ss, enter, joined) = joins-table at m in
         let (few, short) = passes atoms (g .rule) (g .rules) m (rw (led .rules) fine) in
         let (d, x, e, f) = on (after at p w g ss) (leads-on m at g ss joined led) in
-        (d, goes at after′ w _ (lexed-next text from n) (step-takes t at p w g q (moved m .2) (record { few = few; short = short; enter = enter })) x, e, f)
+        (d, goes at stop w _ (lexed-next text from n) (step-takes t at p w g q (moved m .2) (record { few = few; short = short; enter = enter })) x, e, f)
 
-    complete-word : {w : Word} {vs : List Word} (gap rest : List ℕ) → drop from text ≡ gap ++ (spelling w ++ rest) → Gap gap → Proper w → Ends w rest → ahead-words a ≡ w ∷ vs → ((after′ : ℕ) → drop after′ text ≡ rest → (q : Place) (g′ : Got) (a′ : Ahead q) → ahead-words a′ ≡ vs → Leads atoms all g′ a′ → Read-on after′ (state q g′)) → Read-on from (state p g)
+    complete-word : {w : Word} {vs : List Word} (gap rest : List ℕ) → drop from text ≡ gap ++ (spelling w ++ rest) → Gap gap → Proper w → Ends w rest → ahead-words a ≡ w ∷ vs → ((stop : ℕ) → drop stop text ≡ rest → (q : Place) (g′ : Got) (a′ : Ahead q) → ahead-words a′ ≡ vs → Leads atoms all g′ a′ → Read-on stop (state q g′)) → Read-on from (state p g)
     complete-word {w} {vs} gap rest b h pr en v on = go (forth a)
       where
         go : Forth a → Read-on from (state p g)
-        go (none-left n) = let e = n .no-words in let z : _≡_ {A = ℕ} 0 1 = cc in absurd (omega arith)
+        go (none-left n) = let e = n .no-words in never (cc)
         go (begins {q} {w = w′} {a′} m) =
             let first = moved m .0 in
             let same : w′ ≡ w = cc in
@@ -71,23 +67,8 @@ module _ (t : Text) (text : List ℕ) (atoms : List Name) (all : List Rule) (few
       where
         go : Forth a → Read-on from (state p g)
         go (none-left n) = complete-end l n
-        go (begins m) = let first = moved m .0 in let z : _≡_ {A = ℕ} 0 1 = cc in absurd (omega arith)
+        go (begins m) = let first = moved m .0 in never (cc)
 
-  complete : {bs : List ℕ} {vs : List Word} → Spells bs vs → (from : ℕ) → drop from text ≡ bs → {p : Place} (g : Got) (a : Ahead p) → ahead-words a ≡ vs → Leads atoms all g a → Read-on from (state p g)
+  pub complete : {bs : List ℕ} {vs : List Word} → Spells bs vs → (from : ℕ) → drop from text ≡ bs → {p : Place} (g : Got) (a : Ahead p) → ahead-words a ≡ vs → Leads atoms all g a → Read-on from (state p g)
   complete (done l) from b g a v led = complete-last from g led (subst Last-gap (sym b) l) v
-  complete (more {gap} {rest} {w} {ws} h pr en s) from b g a v led = complete-word from g led gap rest b h pr en v (λ after′ e q g′ a′ v′ led′. complete s after′ e g′ a′ v′ led′)
-
-pub spelled-is-read : Spelled-is-read
-spelled-is-read t text before ws h few = go (leb (length text) 16384) (le-leb _ _ (h .short))
-  where
-    atoms : List Name
-    atoms = with-names (table before) (names ws)
-
-    led : Leads atoms (map (numbered atoms) ws) (none-yet before) (start ws)
-    led = record { names = refl; rules = outcome-start atoms ws }
-
-    go : (b : Bool) → b ≡ true → (d : State) × (elim b as (λ b. Type 0) [ true ↦ Reads t text 0 (fresh before) (Ok d) | false ↦ Ok d ≡ Err (LongText t) ]) × Says before ws d
-    go true e =
-        let (d, x, n, r) = complete t text atoms (map (numbered atoms) ws) few (fine-numbered atoms ws (h .few) (h .bodies)) (h .spells) 0 refl (none-yet before) (start ws) refl led in
-        (d, x, record { atoms = n; rules = rw n r })
-    go false e = absurd (false≢true e)
+  complete (more {gap} {rest} {w} {ws} h pr en s) from b g a v led = complete-word from g led gap rest b h pr en v (λ stop e q g′ a′ v′ led′. complete s stop e g′ a′ v′ led′)

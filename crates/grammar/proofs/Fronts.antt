@@ -6,21 +6,20 @@ use Prim.Native.Nat.{ℕ, suc, _+_, _≤_}
 use native.Mathlib.Omega.{arith}
 use lib.Chars.{codes}
 use lib.Dec.{eqb, leb}
-use lib.ListN.{length, take, drop, take-append-drop}
+use lib.ListN.{length}
 use Rattle.std.specs.shelf.Lists.{All}
 use Rattle.std.specs.shelf.Text.{sameBytes}
-use Rattle.std.proofs.shelf.Lists.{take-at, length-take-le}
+use Rattle.std.proofs.shelf.Lists.{take-at}
 use Rattle.std.proofs.shelf.Tests.{eqb-true, leb-true, le-leb, not-true, cond-true, cond-false}
 use Rattle.std.proofs.shelf.Ways.{tells, not-from-decides, decides-not}
 use Rattle.std.proofs.shelf.Equals.{sameBytes-decides}
-use Rattle.std.specs.declared.option.Option.{Option}
-use Rattle.std.specs.declared.option.Option.the-variants.{Some, None}
+use Rattle.std.specs.declared.option.Option.the-variants.{Some}
 use Rattle.refusals.specs.declared.fault.Text.{Text}
 use Rattle.refusals.specs.declared.fault.Fault.{Fault}
 use Rattle.reading.specs.Classes.{small, name-part}
-use Rattle.reading.specs.Lexical.{run, Word, name, negation, arrow, comma, dot, Lexed, token, no-token, long-name, front, word, colon}
+use Rattle.reading.specs.Lexical.{run, Word, name, negation, arrow, comma, dot, Lexed, token, no-token, long-name, front, word}
 use Rattle.reading.specs.Tokens.{lexical-fault}
-use Rattle.grammar.specs.Spelling.{spelling, Proper, Ends, Stops, Name-bytes}
+use Rattle.grammar.specs.Spelling.{spelling, Proper, Ends, Stops}
 use Rattle.grammar.proofs.Gaps.{Clear}
 
 abbrev Parts : List ℕ → Type 0

@@ -1,6 +1,6 @@
 -- Which table and which rules a state comes to with what is ahead of it: a token changes neither.
 use mathlib.Core.Path.{_≡_, refl, sym, _∙_, ap}
-use mathlib.Core.List.{List, [], _∷_, _++_}
+use mathlib.Core.List.{List, _++_}
 use Prim.Native.Nat.{ℕ}
 use Rattle.game.specs.Rules.{Rule}
 use Rattle.reading.specs.Lexical.{Word, name, negation, arrow, comma, dot}

@@ -1,18 +1,18 @@
 -- What comes next in a text from a place on: which bytes it is spelled by.
 use mathlib.Core.Path.{_≡_, refl, sym, _∙_, ap, subst}
 use mathlib.Core.Bool.{false}
-use mathlib.Core.List.{List, [], _∷_, _++_, append-assoc, append-nil}
+use mathlib.Core.List.{List, [], _∷_, _++_, append-nil}
 use Prim.Native.Nat.{ℕ, _+_, _<_, _≤_}
 use native.Mathlib.Omega.{arith}
 use lib.ListN.{length, drop, length-append, length-drop}
 use Rattle.std.proofs.shelf.Lists.{drop-drop, drop-at}
-use Rattle.std.specs.declared.option.Option.{Option}
-use Rattle.std.specs.declared.option.Option.the-variants.{Some, None}
+use Rattle.std.specs.declared.option.Option.the-variants.{Some}
 use Rattle.refusals.specs.declared.fault.Text.{Text}
 use Rattle.refusals.specs.declared.fault.Fault.{Fault}
-use Rattle.reading.specs.Lexical.{gap, Word, Lexed, end, no-token, long-name, token, front, lexed}
+use Rattle.reading.specs.Lexical.{gap, Word, end, token, front, lexed}
 use Rattle.reading.specs.Tokens.{lexical-fault}
 use Rattle.grammar.specs.Spelling.{Gap, Last-gap, spelling, Proper, Ends}
+use Rattle.grammar.proofs.Never.{never}
 use Rattle.grammar.proofs.Gaps.{gap-over, gap-last, gap-clear, Clear, Begins, clear, last, begins}
 use Rattle.grammar.proofs.Fronts.{front-spelled, spelled-clear, spelled-long, Front, spelled, refused, front-of}
 
@@ -90,14 +90,14 @@ module _ (text : List ℕ) (from : ℕ) where
           let same-start : at′ ≡ at = cc in
           let same-stop : after′ ≡ after = cc in
           rw (← same-word, ← same-start, ← same-stop) n
-      go (the-end f l) = absurd (let z : _≡_ {A = ℕ} 0 1 = cc in omega arith)
-      go (neither f g) = absurd (let i : lexical-fault t (token at after w) ≡ Some f = ap (lexical-fault t) (sym e) ∙ g in let z : _≡_ {A = ℕ} 0 1 = cc in omega arith)
+      go (the-end f l) = never (cc)
+      go (neither f g) = let i : lexical-fault t (token at after w) ≡ Some f = ap (lexical-fault t) (sym e) ∙ g in never (cc)
 
   -- an end that is read is a last gap
   pub end-last : Text → lexed text from ≡ end → Last-gap (drop from text)
   end-last t e = go (comes t)
     where
       go : Comes t → Last-gap (drop from text)
-      go (a-token f n) = absurd (let z : _≡_ {A = ℕ} 0 1 = cc in omega arith)
+      go (a-token f n) = never (cc)
       go (the-end f l) = l
-      go (neither f g) = absurd (let i : lexical-fault t end ≡ Some f = ap (lexical-fault t) (sym e) ∙ g in let z : _≡_ {A = ℕ} 0 1 = cc in omega arith)
+      go (neither f g) = let i : lexical-fault t end ≡ Some f = ap (lexical-fault t) (sym e) ∙ g in never (cc)

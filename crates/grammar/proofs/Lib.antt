@@ -1,3 +1,4 @@
+pub mod Never
 pub mod Gaps
 pub mod Fronts
 pub mod Lexing
@@ -10,3 +11,4 @@ pub mod Leads
 pub mod Limits
 pub mod Sound
 pub mod Complete
+pub mod Reading

@@ -1,8 +1,8 @@
 -- The limits on one text: what is read keeps them, and what keeps them is read.
-use mathlib.Core.Path.{_≡_, refl, sym, _∙_, ap}
+use mathlib.Core.Path.{_≡_, refl}
 use mathlib.Core.Bool.{false}
 use mathlib.Core.List.{List, [], _∷_, _++_, map}
-use Prim.Native.Nat.{ℕ, _+_, _<_, _≤_}
+use Prim.Native.Nat.{ℕ, _+_, _≤_}
 use native.Mathlib.Omega.{arith}
 use lib.Dec.{leb}
 use lib.ListN.{length, length-append}
@@ -10,7 +10,6 @@ use Rattle.std.specs.shelf.Lists.{All}
 use Rattle.std.proofs.shelf.Lists.{length-push, length-map}
 use Rattle.std.proofs.shelf.Elements.{all-push}
 use Rattle.std.proofs.shelf.Tests.{leb-false, lt-leb}
-use Rattle.std.specs.declared.option.Option.the-variants.{Some, None}
 use Rattle.game.specs.Rules.{Rule}
 use Rattle.reading.specs.Lexical.{Word}
 use Rattle.reading.specs.Steps.{literals}
@@ -26,10 +25,10 @@ pub record Fine (rs : List Rule) : Type 0 where
   pub few : length rs ≤ 256
   pub short : All Short rs
 
--- the rules that ended and the rule that goes on, with how many more rules and literals have begun
-pub record Kept (rules literals′ : ℕ) (r : Rule) (rs : List Rule) : Type 0 where
+-- the rules that ended, with how many more have begun, and how many literals have begun in the rule that goes on
+pub record Kept (rules body : ℕ) (rs : List Rule) : Type 0 where
   pub few : length rs + rules ≤ 256
-  pub short : literals r + literals′ ≤ 16
+  pub short : body ≤ 16
   pub all : All Short rs
 
 abbrev pub rules-begun : Place → ℕ
@@ -49,37 +48,41 @@ literals-begun AfterLiteral = 0
 literals-begun AfterComma = 0
 
 abbrev pub Keeps : Place → Rule → List Rule → Type 0
-Keeps p r rs = Kept (rules-begun p) (literals-begun p) r rs
+Keeps p r rs = Kept (rules-begun p) (literals r + literals-begun p) rs
 
 module _ (r : Rule) (rs : List Rule) where
-  begins-rule : leb 256 (length rs) ≡ false → Kept 0 0 r rs → Kept 1 0 r rs
+  begins-rule : leb 256 (length rs) ≡ false → Kept 0 (literals r + 0) rs → Kept 1 (literals r + 0) rs
   begins-rule e h = record { few = omega (arith, leb-false 256 (length rs) e); short = h .short; all = h .all }
 
-  begins-literal : leb 16 (literals r) ≡ false → Kept 1 0 r rs → Kept 1 1 r rs
+  begins-literal : leb 16 (literals r) ≡ false → Kept 1 (literals r + 0) rs → Kept 1 (literals r + 1) rs
   begins-literal e h = record { few = h .few; short = omega (arith, leb-false 16 (literals r) e); all = h .all }
 
-  plain-ends : (k : ℕ) → Kept 1 1 r rs → Kept 1 0 (rule-after AfterComma (Word.name []) k r) rs
-  plain-ends k h = record { few = h .few; short = simp length-push (omega arith); all = h .all }
+  -- a literal that has begun stands in the rule then
+  ends-literal : (n : ℕ) → n ≡ literals r + 1 → Kept 1 (literals r + 1) rs → Kept 1 (n + 0) rs
+  ends-literal n e h = record { few = h .few; short = omega arith; all = h .all }
 
-  negated-ends : (k : ℕ) → Kept 1 1 r rs → Kept 1 0 (rule-after AfterNot (Word.name []) k r) rs
-  negated-ends k h = record { few = h .few; short = simp length-push (omega arith); all = h .all }
+  ends-rule : Kept 1 (literals r + 0) rs → Kept 0 0 (rs ++ r ∷ [])
+  ends-rule h = record { few = simp length-push (omega arith); short = omega arith; all = all-push Short rs r (h .all) (omega arith) }
 
-  rule-ends : (k : ℕ) → Kept 1 0 r rs → Kept 0 0 (rule-after Start Word.dot k r) (rs ++ r ∷ [])
-  rule-ends k h = record { few = simp length-push (omega arith); short = omega arith; all = all-push Short rs r (h .all) (omega arith) }
+one-plain : (r : Rule) (k : ℕ) → length (r .plain ++ k ∷ []) + length (r .negated) ≡ literals r + 1
+one-plain r k = simp length-push (omega arith)
+
+one-negated : (r : Rule) (k : ℕ) → length (r .plain) + length (r .negated ++ k ∷ []) ≡ literals r + 1
+one-negated r k = simp length-push (omega arith)
 
 pub kept-move : (r : Rule) (rs : List Rule) (k : ℕ) {p q : Place} {a : Ahead p} {w : Word} {a′ : Ahead q} → Moves p q a w a′ → many p rs ≡ false → long p w r ≡ false → Keeps p r rs → Keeps q (rule-after p w k r) (ended-after w r rs)
-kept-move r rs k (head-of-fact n ws) m l h = record { few = omega (arith, leb-false 256 (length rs) m); short = h .short; all = h .all }
-kept-move r rs k (head-of-rule n b ws) m l h = record { few = omega (arith, leb-false 256 (length rs) m); short = h .short; all = h .all }
+kept-move r rs k (head-of-fact n ws) m l h = begins-rule r rs m h
+kept-move r rs k (head-of-rule n b ws) m l h = begins-rule r rs m h
 kept-move r rs k (no-head b ws) m l h = begins-rule r rs m h
 kept-move r rs k (head-arrow b ws) m l h = h
-kept-move r rs k (fact-ends ws) m l h = rule-ends r rs k h
-kept-move r rs k (no-body ws) m l h = rule-ends r rs k h
-kept-move r rs k (first-plain n ls ws) m l h = plain-ends r rs k (begins-literal r rs l h)
+kept-move r rs k (fact-ends ws) m l h = ends-rule r rs h
+kept-move r rs k (no-body ws) m l h = ends-rule r rs h
+kept-move r rs k (first-plain n ls ws) m l h = ends-literal r rs _ (one-plain r k) (begins-literal r rs l h)
 kept-move r rs k (first-not n ls ws) m l h = begins-literal r rs l h
-kept-move r rs k (negated-name n ls ws) m l h = negated-ends r rs k h
-kept-move r rs k (body-ends ws) m l h = rule-ends r rs k h
+kept-move r rs k (negated-name n ls ws) m l h = ends-literal r rs _ (one-negated r k) h
+kept-move r rs k (body-ends ws) m l h = ends-rule r rs h
 kept-move r rs k (one-more l′ ls ws) m l h = h
-kept-move r rs k (next-plain n ls ws) m l h = plain-ends r rs k (begins-literal r rs l h)
+kept-move r rs k (next-plain n ls ws) m l h = ends-literal r rs _ (one-plain r k) (begins-literal r rs l h)
 kept-move r rs k (next-not n ls ws) m l h = begins-literal r rs l h
 
 module _ (table : List Name) where

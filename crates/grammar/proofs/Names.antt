@@ -2,10 +2,10 @@
 use mathlib.Core.Path.{_≡_, refl, sym, _∙_, ap, subst}
 use mathlib.Core.Bool.{Bool, true, false, cond, _||_}
 use mathlib.Core.List.{List, [], _∷_, _++_}
-use Prim.Native.Nat.{ℕ, suc, _+_, _<_, _≤_}
+use Prim.Native.Nat.{ℕ, suc, _<_, _≤_}
 use native.Mathlib.Omega.{arith}
 use lib.Dec.{ltb}
-use lib.ListN.{length, length-append}
+use lib.ListN.{length}
 use Rattle.std.specs.shelf.Text.{sameBytes}
 use Rattle.std.proofs.shelf.Lists.{map-push, length-push, length-map}
 use Rattle.std.proofs.shelf.Tests.{ltb-true, ltb-false, lt-ltb, or-right, false≢true, cond-true, cond-false}
@@ -19,6 +19,7 @@ use Rattle.refusals.specs.declared.fault.Fault.the-variants.{ManyAtoms}
 use Rattle.reading.specs.Steps.{Standing, index, entered}
 use Rattle.grammar.specs.Grammar.{Name, known, with-names, number}
 use Rattle.grammar.specs.Accepted.{table, name-of}
+use Rattle.grammar.proofs.Never.{never}
 
 pub index-number : (n : Name) (ss : List Standing) → index n ss ≡ number (table ss) n
 index-number n [] = refl
@@ -131,4 +132,4 @@ enters t at n ss = subst (λ b. Entered ss (n ∷ []) (cond b (Ok ss) new)) (sym
 
 pub entered-ok : {ss ss′ : List Standing} {ns : List Name} {r : Result (List Standing) Fault} → Entered ss ns r → r ≡ Ok ss′ → (table ss′ ≡ with-names (table ss) ns) × (length ss ≤ 96 → length ss′ ≤ 96)
 entered-ok {ss} {ss′} {ns} (joins new e j few) o = let same : new ≡ ss′ = cc in (rw (← same) j, rw (← same) few)
-entered-ok (full f e many) o = let z : _≡_ {A = ℕ} 0 1 = cc in absurd (omega arith)
+entered-ok (full f e many) o = never (cc)

@@ -1,56 +1,53 @@
--- A text has one reading: reading is a function, which each reading agrees with.
-use mathlib.Core.Path.{_≡_, refl, sym, _∙_, ap, subst}
-use mathlib.Core.Bool.{Bool, true, false}
+-- Reading from a place on comes to one answer: it is a function, which each reading agrees with.
+use mathlib.Core.Path.{_≡_, refl}
 use mathlib.Core.List.{List}
 use Prim.Native.Nat.{ℕ, zero, suc, _+_, _<_, _≤_}
 use native.Mathlib.Omega.{arith}
-use lib.Dec.{leb}
 use lib.ListN.{length}
-use Rattle.std.specs.declared.option.Option.{Option}
-use Rattle.std.specs.declared.option.Option.the-variants.{Some, None}
+use Rattle.std.specs.declared.option.Option.the-variants.{Some}
 use Rattle.std.specs.declared.result.Result.{Result}
 use Rattle.std.specs.declared.result.Result.the-variants.{Ok, Err}
 use Rattle.refusals.specs.declared.fault.Text.{Text}
 use Rattle.refusals.specs.declared.fault.Fault.{Fault}
-use Rattle.refusals.specs.declared.fault.Fault.the-variants.{NoToken, LongName, LongText}
+use Rattle.refusals.specs.declared.fault.Fault.the-variants.{NoToken, LongName}
 use Rattle.reading.specs.Lexical.{Word, Lexed, end, no-token, long-name, token, lexed}
 use Rattle.reading.specs.Tokens.{lexical-fault}
-use Rattle.reading.specs.Steps.{State, Standing, step, ended, fresh, Reads, ends, no-word, refused, goes, Text-read}
-use Rattle.grammar.specs.Accepted.{One-reading}
+use Rattle.reading.specs.Steps.{State, step, ended, Reads, ends, no-word, refused, goes}
+use Rattle.grammar.proofs.Never.{never}
 use Rattle.grammar.proofs.Lexing.{next-long, Comes, a-token, the-end, neither, comes, token-next}
 
 module _ (t : Text) (text : List ℕ) where
   -- what follows a step
-  abbrev after-step : (ℕ → State → Result State Fault) → ℕ → Result State Fault → Result State Fault
+  abbrev pub after-step : (ℕ → State → Result State Fault) → ℕ → Result State Fault → Result State Fault
   after-step on after (Ok d) = on after d
   after-step on after (Err f) = Err f
 
   -- what follows what comes next
-  abbrev after-lexed : (ℕ → State → Result State Fault) → State → Lexed → Result State Fault
+  abbrev pub after-lexed : (ℕ → State → Result State Fault) → State → Lexed → Result State Fault
   after-lexed on d end = ended t (length text) d
   after-lexed on d (no-token at) = Err (NoToken t at)
   after-lexed on d (long-name at) = Err (LongName t at)
   after-lexed on d (token at after w) = after-step on after (step t at d w)
 
   -- the reading, of as many tokens as the first argument says
-  abbrev reading : ℕ → ℕ → State → Result State Fault
+  abbrev pub reading : ℕ → ℕ → State → Result State Fault
   reading zero from d = ended t (length text) d
   reading (suc n) from d = after-lexed (reading n) d (lexed text from)
 
   refused-reading : (n from : ℕ) (d : State) (f : Fault) (l : Lexed) → lexical-fault t l ≡ Some f → Err f ≡ after-lexed (reading n) d l
-  refused-reading n from d f end e = let z : _≡_ {A = ℕ} 0 1 = cc in absurd (omega arith)
+  refused-reading n from d f end e = never (cc)
   refused-reading n from d f (no-token at) e = cc
   refused-reading n from d f (long-name at) e = cc
-  refused-reading n from d f (token at after w) e = let z : _≡_ {A = ℕ} 0 1 = cc in absurd (omega arith)
+  refused-reading n from d f (token at after w) e = never (cc)
 
-  agrees : (n : ℕ) {from : ℕ} {d : State} {r : Result State Fault} → Reads t text from d r → length text ≤ from + n → r ≡ reading (suc n) from d
+  pub agrees : (n : ℕ) {from : ℕ} {d : State} {r : Result State Fault} → Reads t text from d r → length text ≤ from + n → r ≡ reading (suc n) from d
   agrees n {from} {d} (ends e) h = rw e refl
   agrees n {from} {d} (no-word f e) h = refused-reading n from d f (lexed text from) e
   agrees n {from} {d} (refused at after w f e s) h = rw (e, s) refl
   agrees zero {from} {d} (goes at after w d′ e s r) h = let long = next-long text from (token-next text from t e) in absurd (omega arith)
   agrees (suc n) {from} {d} (goes at after w d′ e s r) h = let long = next-long text from (token-next text from t e) in rw (e, s) (agrees n r (omega arith))
 
-  abbrev Some-reading : ℕ → State → Type 0
+  abbrev pub Some-reading : ℕ → State → Type 0
   Some-reading from d = (r : Result State Fault) × Reads t text from d r
 
   -- there is a reading here, if there is one after each token that may come
@@ -66,21 +63,6 @@ module _ (t : Text) (text : List ℕ) where
       go (the-end e l) = (ended t (length text) d, ends e)
       go (neither f e) = (Err f, no-word f e)
 
-  reads : (n from : ℕ) (d : State) → length text ≤ from + n → Some-reading from d
+  pub reads : (n from : ℕ) (d : State) → length text ≤ from + n → Some-reading from d
   reads zero from d h = reads-on from d (λ after d′ low high. absurd (omega arith))
   reads (suc n) from d h = reads-on from d (λ after d′ low high. reads n after d′ (omega arith))
-
-  abbrev Whole : List Standing → Bool → Result State Fault → Type 0
-  Whole before b r = elim b as (λ b. Type 0) [ true ↦ Reads t text 0 (fresh before) r | false ↦ r ≡ Err (LongText t) ]
-
-  once : (before : List Standing) (b : Bool) (r r′ : Result State Fault) → Whole before b r → Whole before b r′ → r ≡ r′
-  once before true r r′ x y = let long : length text ≤ 0 + length text = omega arith in agrees (length text) x long ∙ sym (agrees (length text) y long)
-  once before false r r′ x y = x ∙ sym y
-
-  some : (before : List Standing) (b : Bool) → (r : Result State Fault) × Whole before b r
-  some before true = reads (length text) 0 (fresh before) (omega arith)
-  some before false = (Err (LongText t), refl)
-
-pub one-reading : One-reading
-one-reading =
-    (λ t text before r r′ x y. once t text before (leb (length text) 16384) r r′ x y, λ t text before. some t text before (leb (length text) 16384))

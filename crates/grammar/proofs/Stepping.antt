@@ -3,10 +3,8 @@ use mathlib.Core.Path.{_≡_, refl, sym, _∙_, ap}
 use mathlib.Core.Bool.{Bool, true, false, cond, _&&_}
 use mathlib.Core.List.{List, [], _∷_, _++_}
 use Prim.Native.Nat.{ℕ}
-use native.Mathlib.Omega.{arith}
 use lib.Dec.{leb}
 use lib.ListN.{length}
-use Rattle.std.proofs.shelf.Tests.{cond-false}
 use Rattle.std.specs.declared.option.Option.the-variants.{Some, None}
 use Rattle.std.specs.declared.result.Result.{Result}
 use Rattle.std.specs.declared.result.Result.the-variants.{Ok, Err}
@@ -17,6 +15,7 @@ use Rattle.refusals.specs.declared.fault.Fault.the-variants.{LongBody, ManyRule
 use Rattle.reading.specs.Lexical.{Word, name, negation, arrow, comma, dot}
 use Rattle.reading.specs.Steps.{State, Standing, follow, opens-rule, before-literal, of-literal, literals, no-rule, index, put, begin, entered, named, taken, asked, step}
 use Rattle.grammar.specs.Grammar.{Name}
+use Rattle.grammar.proofs.Never.{never}
 use Rattle.grammar.proofs.Names.{Entered, joins, enters}
 use Rattle.grammar.proofs.Places.{Place, reached, Got, state}
 
@@ -111,14 +110,15 @@ taken-is t at p q g dot = refl
 module _ (t : Text) (at : ℕ) (p : Place) (w : Word) (g : Got) where
   pub refused-step : follow (reached p .phase) w ≡ None → (d : State) → step t at (state p g) w ≡ Ok d → ⊥
   unfolding step
-  refused-step f d s = let e = ap (asked t at (state p g) w) f in let z : _≡_ {A = ℕ} 0 1 = cc in omega arith
+  refused-step f d s = let e = ap (asked t at (state p g) w) f in never (cc)
+
+  -- the token is within the limits, and then these are the atoms
+  pub record Takes (ss : List Standing) : Type 0 where
+    pub few : many p (g .rules) ≡ false
+    pub short : long p w (g .rule) ≡ false
+    pub enter : entry t at w (g .atoms) ≡ Ok ss
 
   module _ (q : Place) where
-    pub record Takes (ss : List Standing) : Type 0 where
-      pub few : many p (g .rules) ≡ false
-      pub short : long p w (g .rule) ≡ false
-      pub enter : entry t at w (g .atoms) ≡ Ok ss
-
     abbrev comes-to : List Standing → State
     comes-to ss = state q (after at p w g ss)
 
@@ -136,7 +136,7 @@ module _ (t : Text) (at : ℕ) (p : Place) (w : Word) (g : Got) where
     takes-step {d} f s = go (many p (g .rules)) (long p w (g .rule)) (entry t at w (g .atoms)) refl refl refl (sym (step-limited f) ∙ s)
       where
         go : (x y : Bool) (r : Result (List Standing) Fault) → many p (g .rules) ≡ x → long p w (g .rule) ≡ y → entry t at w (g .atoms) ≡ r → limited x y r ≡ Ok d → (ss : List Standing) × Takes ss × (d ≡ comes-to ss)
-        go true y r m l e s = let z : _≡_ {A = ℕ} 0 1 = cc in absurd (omega arith)
-        go false true r m l e s = let z : _≡_ {A = ℕ} 0 1 = cc in absurd (omega arith)
-        go false false (Err f) m l e s = let z : _≡_ {A = ℕ} 0 1 = cc in absurd (omega arith)
+        go true y r m l e s = never (cc)
+        go false true r m l e s = never (cc)
+        go false false (Err f) m l e s = never (cc)
         go false false (Ok ss) m l e s = (ss, record { few = m; short = l; enter = e }, cc)
