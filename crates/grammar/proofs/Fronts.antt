@@ -22,6 +22,7 @@ use Rattle.reading.specs.Tokens.{lexical-fault}
 use Rattle.grammar.specs.Spelling.{spelling, Proper, Ends, Stops}
 use Rattle.grammar.proofs.Gaps.{Clear}
 
+-- letters, digits and underscores
 abbrev Parts : List ℕ → Type 0
 Parts n = All (λ c. name-part c ≡ true) n
 
@@ -31,11 +32,14 @@ run-over [] (b ∷ rest) a s = cond-false (name-part b) _ _ s
 run-over (b ∷ bs) rest a s = cond-true (name-part b) _ _ (a .0) ∙ ap suc (run-over bs rest (a .1) s)
 
 -- a run goes as far as it can
-run-splits : (bs : List ℕ) → (n rest : List ℕ) × (bs ≡ n ++ rest) × Parts n × Stops rest
-run-splits [] = ([], [], refl, tt, tt)
-run-splits (b ∷ bs) = go (name-part b) refl (run-splits bs)
+abbrev Run : List ℕ → Type 0
+Run bs = (n rest : List ℕ) × (bs ≡ n ++ rest) × Parts n × Stops rest
+
+run-of : (bs : List ℕ) → Run bs
+run-of [] = ([], [], refl, tt, tt)
+run-of (b ∷ bs) = go (name-part b) refl (run-of bs)
   where
-    go : (x : Bool) → name-part b ≡ x → ((n rest : List ℕ) × (bs ≡ n ++ rest) × Parts n × Stops rest) → (n rest : List ℕ) × (b ∷ bs ≡ n ++ rest) × Parts n × Stops rest
+    go : (x : Bool) → name-part b ≡ x → Run bs → Run (b ∷ bs)
     go true e (n, rest, s, p, r) = (b ∷ n, rest, ap (λ l. b ∷ l) s, (e, p), r)
     go false e h = ([], b ∷ bs, refl, tt, e)
 
@@ -116,5 +120,5 @@ front-of b bs = go (eqb b 44) (eqb b 46) (eqb b 58) (small b) refl refl refl ref
     go true y z s e f g h = spelled comma bs (ap (λ c. c ∷ bs) (eqb-true b 44 e)) tt tt
     go false true z s e f g h = spelled dot bs (ap (λ c. c ∷ bs) (eqb-true b 46 f)) tt tt
     go false false true s e f g h = subst (λ c. Front (c ∷ bs)) (sym (eqb-true b 58 g)) (after-colon bs)
-    go false false false true e f g h = let (n, rest, i, p, r) = run-splits bs in subst (λ l. Front (b ∷ l)) (sym i) (front-word b n rest h p r)
+    go false false false true e f g h = let (n, rest, i, p, r) = run-of bs in subst (λ l. Front (b ∷ l)) (sym i) (front-word b n rest h p r)
     go false false false false e f g h = refused-as (b ∷ bs) no-token (λ at. cond-false (eqb b 44) _ _ e ∙ cond-false (eqb b 46) _ _ f ∙ cond-false (eqb b 58) _ _ g ∙ cond-false (small b) _ _ h) (λ t at. (_, refl))

@@ -8,7 +8,7 @@ use lib.Dec.{ltb}
 use lib.ListN.{length}
 use Rattle.std.specs.shelf.Text.{sameBytes}
 use Rattle.std.proofs.shelf.Lists.{map-push, length-push, length-map}
-use Rattle.std.proofs.shelf.Tests.{ltb-true, ltb-false, lt-ltb, or-right, false≢true, cond-true, cond-false}
+use Rattle.std.proofs.shelf.Tests.{ltb-true, ltb-false, lt-ltb, or-right, false≢true, cond-true, cond-false, cond-both}
 use Rattle.std.proofs.shelf.Ways.{tells}
 use Rattle.std.proofs.shelf.Equals.{sameBytes-decides}
 use Rattle.std.specs.declared.result.Result.{Result}
@@ -34,21 +34,14 @@ index-known n (s ∷ ss) = go (sameBytes (s .name) n) (index-known n ss)
     go false ih = grind (arith, tells)
 
 module _ (n : Name) where
-  known-append : (t u : List Name) → known n t ≡ true → known n (t ++ u) ≡ true
+  -- a name that is known stays, with its number, when others come after
+  known-append : (t u : List Name) → known n t ≡ true → (known n (t ++ u) ≡ true) × (number (t ++ u) n ≡ number t n)
   known-append [] u k = absurd (false≢true k)
   known-append (m ∷ t) u k = go (sameBytes m n) k (known-append t u)
     where
-      go : (b : Bool) → (b || known n t) ≡ true → (known n t ≡ true → known n (t ++ u) ≡ true) → (b || known n (t ++ u)) ≡ true
-      go true k ih = refl
-      go false k ih = ih k
-
-  number-append : (t u : List Name) → known n t ≡ true → number (t ++ u) n ≡ number t n
-  number-append [] u k = absurd (false≢true k)
-  number-append (m ∷ t) u k = go (sameBytes m n) k (number-append t u)
-    where
-      go : (b : Bool) → (b || known n t) ≡ true → (known n t ≡ true → number (t ++ u) n ≡ number t n) → cond b 0 (suc (number (t ++ u) n)) ≡ cond b 0 (suc (number t n))
-      go true k ih = refl
-      go false k ih = ap suc (ih k)
+      go : (b : Bool) → (b || known n t) ≡ true → (known n t ≡ true → (known n (t ++ u) ≡ true) × (number (t ++ u) n ≡ number t n)) → ((b || known n (t ++ u)) ≡ true) × (cond b 0 (suc (number (t ++ u) n)) ≡ cond b 0 (suc (number t n)))
+      go true k ih = (refl, refl)
+      go false k ih = (ih k .0, ap suc (ih k .1))
 
   same : sameBytes n n ≡ true
   same = sameBytes-decides n n .1 refl
@@ -66,38 +59,24 @@ abbrev join : Name → List Name → List Name
 join n t = cond (known n t) t (t ++ n ∷ [])
 
 module _ (n : Name) (t : List Name) where
+  join-is : (P : List Name → Type 0) → (known n t ≡ true → P t) → P (t ++ n ∷ []) → P (join n t)
+  join-is P old new = cond-both (known n t) t (t ++ n ∷ []) P old (λ e. new)
+
   known-join : known n (join n t) ≡ true
-  known-join = go (known n t) refl
-    where
-      go : (b : Bool) → known n t ≡ b → known n (cond b t (t ++ n ∷ [])) ≡ true
-      go true e = e
-      go false e = known-push n t
+  known-join = join-is (λ l. known n l ≡ true) (λ e. e) (known-push n t)
 
   number-join : number (join n t) n ≡ number t n
-  number-join = go (known n t)
-    where
-      go : (b : Bool) → number (cond b t (t ++ n ∷ [])) n ≡ number t n
-      go true = refl
-      go false = number-push n t
+  number-join = join-is (λ l. number l n ≡ number t n) (λ e. refl) (number-push n t)
 
   join-longer : length t ≤ length (join n t)
-  join-longer = go (known n t)
-    where
-      go : (b : Bool) → length t ≤ length (cond b t (t ++ n ∷ []))
-      go true = omega arith
-      go false = simp length-push (omega arith)
+  join-longer = join-is (λ l. length t ≤ length l) (λ e. omega arith) (simp length-push (omega arith))
 
-  -- a name that is known stays, whatever joins
-  keeps : (m : Name) → known m t ≡ true → (known m (join n t) ≡ true) × (number (join n t) m ≡ number t m)
-  keeps m k = go (known n t)
-    where
-      go : (b : Bool) → (known m (cond b t (t ++ n ∷ [])) ≡ true) × (number (cond b t (t ++ n ∷ [])) m ≡ number t m)
-      go true = (k, refl)
-      go false = (known-append m t (n ∷ []) k, number-append m t (n ∷ []) k)
+  join-keeps : (m : Name) → known m t ≡ true → (known m (join n t) ≡ true) × (number (join n t) m ≡ number t m)
+  join-keeps m k = join-is (λ l. (known m l ≡ true) × (number l m ≡ number t m)) (λ e. (k, refl)) (known-append m t (n ∷ []) k)
 
 number-kept : (n : Name) (ns t : List Name) → known n t ≡ true → number (with-names t ns) n ≡ number t n
 number-kept n [] t k = refl
-number-kept n (m ∷ ns) t k = let kept = keeps m t n k in number-kept n ns (join m t) (kept .0) ∙ kept .1
+number-kept n (m ∷ ns) t k = let kept = join-keeps m t n k in number-kept n ns (join m t) (kept .0) ∙ kept .1
 
 -- a name has the number in the end that it has when it comes
 pub number-final : (n : Name) (ns t : List Name) → number (with-names t (n ∷ ns)) n ≡ number t n
@@ -117,18 +96,23 @@ pub data Entered (ss : List Standing) (ns : List Name) (r : Result (List Standin
   full : (f : Fault) → r ≡ Err f → 96 < length (with-names (table ss) ns) → Entered ss ns r
 
 pub enters : (t : Text) (at : ℕ) (n : Name) (ss : List Standing) → Entered ss (n ∷ []) (entered t at n ss)
-enters t at n ss = subst (λ b. Entered ss (n ∷ []) (cond b (Ok ss) new)) (sym (index-known n ss)) (go (known n (table ss)) (ltb (length ss) 96) refl refl)
+enters t at n ss =
+    subst (λ b. Ends-well (cond b (Ok ss) new)) (sym (index-known n ss)) (cond-both (known n (table ss)) (Ok ss) new Ends-well (λ e. joins ss refl (sym (cond-true (known n (table ss)) _ _ e)) (λ h. h)) (λ e. as-new (cond-false (known n (table ss)) _ _ e)))
   where
+    Ends-well : Result (List Standing) Fault → Type 0
+    Ends-well r = Entered ss (n ∷ []) r
+
     grown : List Standing
     grown = ss ++ record { text = t; at = at; name = n } ∷ []
 
     new : Result (List Standing) Fault
     new = cond (ltb (length ss) 96) (Ok grown) (Err (ManyAtoms t at))
 
-    go : (k l : Bool) → known n (table ss) ≡ k → ltb (length ss) 96 ≡ l → Entered ss (n ∷ []) (cond k (Ok ss) (cond l (Ok grown) (Err (ManyAtoms t at))))
-    go true l e f = joins ss refl (sym (cond-true (known n (table ss)) _ _ e)) (λ h. h)
-    go false true e f = joins grown refl (map-push name-of ss _ ∙ sym (cond-false (known n (table ss)) _ _ e)) (λ h. simp length-push (omega (arith, ltb-true (length ss) 96 f)))
-    go false false e f = full _ refl (rw (cond-false (known n (table ss)) _ _ e) (simp (length-push, length-map) (omega (arith, ltb-false (length ss) 96 f))))
+    as-new : with-names (table ss) (n ∷ []) ≡ table ss ++ n ∷ [] → Ends-well new
+    as-new e =
+        cond-both (ltb (length ss) 96) (Ok grown) (Err (ManyAtoms t at)) Ends-well
+        (λ f. joins grown refl (map-push name-of ss _ ∙ sym e) (λ h. simp length-push (omega (arith, ltb-true (length ss) 96 f))))
+        (λ f. full _ refl (rw e (simp (length-push, length-map) (omega (arith, ltb-false (length ss) 96 f)))))
 
 pub entered-ok : {ss ss′ : List Standing} {ns : List Name} {r : Result (List Standing) Fault} → Entered ss ns r → r ≡ Ok ss′ → (table ss′ ≡ with-names (table ss) ns) × (length ss ≤ 96 → length ss′ ≤ 96)
 entered-ok {ss} {ss′} {ns} (joins new e j few) o = let same : new ≡ ss′ = cc in (rw (← same) j, rw (← same) few)
