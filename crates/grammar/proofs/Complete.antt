@@ -10,7 +10,7 @@ use Rattle.game.specs.Rules.{Rule}
 use Rattle.refusals.specs.declared.fault.Text.{Text}
 use Rattle.reading.specs.Lexical.{Word}
 use Rattle.reading.specs.Steps.{State, Standing, opens-rule, ended, Reads, ends, goes}
-use Rattle.grammar.specs.Grammar.{Name, names, with-names}
+use Rattle.grammar.specs.Grammar.{Name, with-names}
 use Rattle.grammar.specs.Spelling.{Gap, Last-gap, spelling, Proper, Ends, Spells, done, more}
 use Rattle.grammar.specs.Accepted.{table}
 use Rattle.grammar.proofs.Never.{never}
@@ -44,6 +44,7 @@ module _ (t : Text) (text : List ℕ) (atoms : List Name) (all : List Rule) (few
             let room = with-names-longer (ahead-names a′) (with-names (table (g .atoms)) (word-names w)) in
             absurd (omega (arith, ap length ends-as))
 
+    -- the token is read, and the rest then
     complete-move : {q : Place} {w : Word} {a′ : Ahead q} {at stop : ℕ} → Moves p q a w a′ → Next text from w at stop → ((g′ : Got) → Leads atoms all g′ a′ → Read-on stop (state q g′)) → Read-on from (state p g)
     complete-move {q} {w} {a′} {at} {stop} m n on =
         let (ss, enter, joined) = joins-table at m in

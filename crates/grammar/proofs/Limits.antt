@@ -21,6 +21,7 @@ use Rattle.grammar.proofs.Ahead.{Ahead, with-body, outcome, Moves, head-of-fac
 abbrev Short : Rule → Type 0
 Short r = literals r ≤ 16
 
+-- rules within the limits on one text
 pub record Fine (rs : List Rule) : Type 0 where
   pub few : length rs ≤ 256
   pub short : All Short rs
@@ -70,6 +71,7 @@ one-plain r k = simp length-push (omega arith)
 one-negated : (r : Rule) (k : ℕ) → length (r .plain) + length (r .negated ++ k ∷ []) ≡ literals r + 1
 one-negated r k = simp length-push (omega arith)
 
+-- a token that is within the limits leaves what is read so
 pub kept-move : (r : Rule) (rs : List Rule) (k : ℕ) {p q : Place} {a : Ahead p} {w : Word} {a′ : Ahead q} → Moves p q a w a′ → many p rs ≡ false → long p w r ≡ false → Keeps p r rs → Keeps q (rule-after p w k r) (ended-after w r rs)
 kept-move r rs k (head-of-fact n ws) m l h = begins-rule r rs m h
 kept-move r rs k (head-of-rule n b ws) m l h = begins-rule r rs m h

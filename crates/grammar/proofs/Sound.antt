@@ -14,7 +14,6 @@ use Rattle.refusals.specs.declared.fault.Fault.{Fault}
 use Rattle.refusals.specs.declared.fault.Fault.the-variants.{Misplaced}
 use Rattle.reading.specs.Lexical.{Word}
 use Rattle.reading.specs.Steps.{State, Standing, opens-rule, step, ended, Reads, ends, no-word, refused, goes}
-use Rattle.grammar.specs.Grammar.{names}
 use Rattle.grammar.specs.Spelling.{Spells, done, more, Last-gap}
 use Rattle.grammar.specs.Accepted.{table}
 use Rattle.grammar.proofs.Never.{never}
