@@ -1,0 +1,14 @@
+pub mod Never
+pub mod Gaps
+pub mod Fronts
+pub mod Lexing
+pub mod Once
+pub mod Names
+pub mod Places
+pub mod Stepping
+pub mod Ahead
+pub mod Leads
+pub mod Limits
+pub mod Sound
+pub mod Complete
+pub mod Reading
