@@ -1,3 +1,4 @@
 pub mod Sided
 pub mod Earlier
 pub mod Read
+pub mod Loaded

@@ -1,2 +1,21 @@
 -- What reading three texts gives.
-use Rattle.reading.specs.Loads.{Three}
+use mathlib.Core.Path.{_≡_}
+use mathlib.Core.Logic.{_⊎_}
+use mathlib.Core.List.{List}
+use Prim.Native.Nat.{ℕ}
+use Rattle.std.specs.declared.result.Result.{Result}
+use Rattle.std.specs.declared.result.Result.the-variants.{Ok, Err}
+use Rattle.refusals.specs.declared.fault.Fault.{Fault}
+use Rattle.refusals.specs.declared.fault.Fault.the-variants.{NoMemory}
+use Rattle.reading.specs.Loads.{Three, Three-read}
+use Rattle.reading.specs.Sections.{part-of}
+use Rattle.reading.specs.Tables.{standings-of}
+use Rattle.loading.specs.declared.texts.Texts.{Texts}
+
+abbrev pub three-of : Texts → Three
+three-of t = record { plan = part-of (t .plan); faults = part-of (t .faults); site = part-of (t .site); atoms = standings-of (t .atoms) }
+
+-- the texts are read as they should be, unless no memory was to be had
+abbrev pub Three-gives : List ℕ → List ℕ → List ℕ → Result Texts Fault → Type 0
+Three-gives p f s (Ok t) = Three-read p f s (Ok (three-of t))
+Three-gives p f s (Err e) = (e ≡ NoMemory) ⊎ Three-read p f s (Err e)

@@ -1,0 +1,18 @@
+-- What reading a side and three texts gives.
+use mathlib.Core.Path.{_≡_}
+use mathlib.Core.Logic.{_⊎_}
+use mathlib.Core.List.{List}
+use Prim.Native.Nat.{ℕ}
+use Rattle.std.specs.declared.result.Result.{Result}
+use Rattle.std.specs.declared.result.Result.the-variants.{Ok, Err}
+use Rattle.refusals.specs.declared.fault.Fault.{Fault}
+use Rattle.refusals.specs.declared.fault.Fault.the-variants.{NoMemory}
+use Rattle.reading.specs.Loads.{Loads}
+use Rattle.loading.specs.declared.game.Game.{Game}
+use Rattle.loading.specs.Sided.{side-of}
+use Rattle.loading.specs.Read.{three-of}
+
+-- the game is read as it should be, unless no memory was to be had
+abbrev pub Game-gives : ℕ → List ℕ → List ℕ → List ℕ → Result Game Fault → Type 0
+Game-gives n p f s (Ok g) = Loads n p f s (Ok (side-of (g .side), three-of (g .texts)))
+Game-gives n p f s (Err e) = (e ≡ NoMemory) ⊎ Loads n p f s (Err e)
