@@ -13,7 +13,13 @@ pub struct Game<'a> {
 }
 
 // Question 1, then 2 to 8 of each text, then 9.
-pub fn read_game<'a>(heap: Global, side: u8, plan: &'a [u8], faults: &'a [u8], site: &'a [u8]) -> Result<Game<'a>, Fault>
+pub fn read_game<'a>(
+    heap: Global,
+    side: u8,
+    plan: &'a [u8],
+    faults: &'a [u8],
+    site: &'a [u8],
+) -> Result<Game<'a>, Fault>
     ensures { λ r. ⌜ Game-gives side (now (plan .entry)) (now (faults .entry)) (now (site .entry)) r ⌝ }
 {
     let side = Side::from_number(side)?;

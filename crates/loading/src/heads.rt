@@ -20,7 +20,11 @@ fn stands(head: Head, plan: &Program<96>, faults: Option<&Program<96>>) -> bool
 }
 
 // Where the first head of the section stands that stands in the texts before it.
-pub(crate) fn first_taken(section: &Section, plan: &Program<96>, faults: Option<&Program<96>>) -> Option<usize>
+pub(crate) fn first_taken(
+    section: &Section,
+    plan: &Program<96>,
+    faults: Option<&Program<96>>,
+) -> Option<usize>
     ensures { λ r. ⌜ r ≡ taken-head (part-of (now (section .entry)) .rules) (part-of (now (section .entry)) .places) (earlier (now (plan .entry)) (faults .entry)) ⌝ }
 {
     let places = section.places();

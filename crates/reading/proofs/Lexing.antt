@@ -63,6 +63,7 @@ module _ (bs : List ℕ) (i : ℕ) (h : i < length bs) where
     where
       rest : Lexed
       rest = cond (small (getD bs i 0)) (word i (suc (run (drop (i + 1) bs))) (getD bs i 0 ∷ drop (i + 1) bs)) (no-token i)
+
       others : Lexed
       others = cond (eqb (getD bs i 0) 46) (token i (i + 1) dot) (cond (eqb (getD bs i 0) 58) (colon i (drop (i + 1) bs)) rest)
 

@@ -58,6 +58,7 @@ module _ (t : Text) (at : ℕ) (n : List ℕ) (ss : List Standing) where
           let few = ltb-true (length ss) 96 less in
           record { longer = omega arith; has = omega (arith, index-bound n ss); few = λ _. omega arith }
       room false full e = absurd (err-ok e)
+
       known : (b : Bool) → ltb (index n ss) (length ss) ≡ b → cond b (Ok ss) (cond (ltb (length ss) 96) (Ok (ss ++ new ∷ [])) (Err (ManyAtoms t at))) ≡ Ok ss′ → Grown ss ss′ n
       known true has e =
           let same : ss ≡ ss′ = cc in

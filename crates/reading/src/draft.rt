@@ -27,6 +27,7 @@ use std::alloc::Global;
 use std::mem;
 
 const MOST_RULES: usize = 256;
+
 const MOST_LITERALS: usize = 16;
 
 #[derive(Drop)]
@@ -45,7 +46,11 @@ pub(crate) struct Draft<'a> {
 fn no_rule(heap: Global) -> Rule
     ensures { λ r. ⌜ model r ≡ no-rule ⌝ }
 {
-    Rule { head: Head::None, plain: Vec::new(heap), negated: Vec::new(heap) }
+    Rule {
+        head: Head::None,
+        plain: Vec::new(heap),
+        negated: Vec::new(heap),
+    }
 }
 
 impl<'a> Draft<'a> {
@@ -69,7 +74,11 @@ impl<'a> Draft<'a> {
     fn full(&self) -> bool
         ensures { λ r. ⌜ r ≡ leb 16 (literals (model (now (self .entry) .rule))) ⌝ }
     {
-        self.rule.plain.len().saturating_add(self.rule.negated.len()) >= MOST_LITERALS
+        self.rule
+            .plain
+            .len()
+            .saturating_add(self.rule.negated.len())
+            >= MOST_LITERALS
     }
 
     // An atom joins the rule that goes on.
@@ -184,7 +193,16 @@ impl<'a> Draft<'a> {
         requires { ⌜ Within (state-of self) ⌝ }
         ensures { λ r. ⌜ Finishes (ended (self .entry .text) end (state-of (self .entry))) r ⌝ }
     {
-        let Draft { heap: _, text, phase, begun: _, rule: _, rules, places, atoms } = self;
+        let Draft {
+            heap: _,
+            text,
+            phase,
+            begun: _,
+            rule: _,
+            rules,
+            places,
+            atoms,
+        } = self;
         if !phase.opens_rule() {
             return Err(Fault::Misplaced { text, at: end });
         }

@@ -14,7 +14,12 @@ use std::alloc::Global;
 const LONGEST_TEXT: usize = 16_384;
 
 // The rules of a text, with the atoms of the texts before it and its own; or the one refusal.
-pub fn read_text<'a>(heap: Global, text: Text, bytes: &'a [u8], atoms: Atoms<'a>) -> Result<(Section, Atoms<'a>), Fault>
+pub fn read_text<'a>(
+    heap: Global,
+    text: Text,
+    bytes: &'a [u8],
+    atoms: Atoms<'a>,
+) -> Result<(Section, Atoms<'a>), Fault>
     ensures { λ r. ⌜ Gives text (now (bytes .entry)) (standings-of (atoms .entry)) r ⌝ }
 {
     if bytes.len() > LONGEST_TEXT {

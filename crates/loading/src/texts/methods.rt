@@ -16,14 +16,24 @@ use refusals::fault::Text;
 use std::alloc::Global;
 
 // Questions 2 to 8 of the plan text, the fault text and the site text in turn.
-pub fn read_texts<'a>(heap: Global, plan: &'a [u8], faults: &'a [u8], site: &'a [u8]) -> Result<Texts<'a>, Fault>
+pub fn read_texts<'a>(
+    heap: Global,
+    plan: &'a [u8],
+    faults: &'a [u8],
+    site: &'a [u8],
+) -> Result<Texts<'a>, Fault>
     ensures { λ r. ⌜ Three-gives (now (plan .entry)) (now (faults .entry)) (now (site .entry)) r ⌝ }
 {
     let atoms = Atoms::new(heap);
     let (plan, atoms) = read_text(heap, Text::Plan, plan, atoms)?;
     let (faults, atoms) = read_text(heap, Text::Faults, faults, atoms)?;
     let (site, atoms) = read_text(heap, Text::Site, site, atoms)?;
-    Ok(Texts { plan, faults, site, atoms })
+    Ok(Texts {
+        plan,
+        faults,
+        site,
+        atoms,
+    })
 }
 
 impl<'a> Texts<'a> {
@@ -33,10 +43,16 @@ impl<'a> Texts<'a> {
     {
         let plan = self.plan.program();
         if let Some(at) = first_taken(&self.faults, plan, None) {
-            return Err(Fault::TakenHead { text: Text::Faults, at });
+            return Err(Fault::TakenHead {
+                text: Text::Faults,
+                at,
+            });
         }
         if let Some(at) = first_taken(&self.site, plan, Some(self.faults.program())) {
-            return Err(Fault::TakenHead { text: Text::Site, at });
+            return Err(Fault::TakenHead {
+                text: Text::Site,
+                at,
+            });
         }
         Ok(())
     }

@@ -1,5 +1,6 @@
 // What a section tells.
 ghost use mathlib.Core.Path.{_≡_};
+ghost use lib.ListN.{length};
 ghost use Rattle.reading.specs.Sections.{part-of};
 ghost use Rattle.programs.specs.Programs.{rules-of};
 use super::Section;
@@ -10,6 +11,13 @@ impl Section {
         ensures { λ r. ⌜ rules-of (now r) ≡ part-of (now (self .entry)) .rules ⌝ }
     {
         &self.program
+    }
+
+    // How many rules there are.
+    pub fn count(&self) -> usize
+        ensures { λ r. ⌜ r ≡ length (part-of (now (self .entry)) .rules) ⌝ }
+    {
+        self.places.len()
     }
 
     // Where each rule starts, in the order of the rules.

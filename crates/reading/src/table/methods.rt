@@ -1,6 +1,7 @@
 // How the table grows, and what it tells.
 ghost use mathlib.Core.Path.{_≡_};
 ghost use mathlib.Core.List.{[]};
+ghost use lib.ListN.{length};
 ghost use Rattle.std.specs.Of.Vec.{vec-items};
 ghost use Rattle.reading.specs.Steps.{index};
 ghost use Rattle.reading.specs.Tables.{standings, standings-of, Enters};
@@ -29,7 +30,9 @@ impl<'a> Atoms<'a> {
     pub fn new(heap: Global) -> Atoms<'a>
         ensures { λ r. ⌜ standings-of r ≡ [] ⌝ }
     {
-        Atoms { entries: Vec::new(heap) }
+        Atoms {
+            entries: Vec::new(heap),
+        }
     }
 
     // The number of the atom of this name; it joins the table where it is new.
@@ -44,6 +47,13 @@ impl<'a> Atoms<'a> {
             self.entries.push(Atom { text, at, name })?;
         }
         Ok(number as u16)
+    }
+
+    // How many atoms there are.
+    pub fn count(&self) -> usize
+        ensures { λ r. ⌜ r ≡ length (standings-of (now (self .entry))) ⌝ }
+    {
+        self.entries.len()
     }
 
     // The entries in the order of their numbers.

@@ -22,11 +22,11 @@ loop-at-again c =
     let bs = c .args .bytes .now in
     let i = c .loop-at .at in
     let step : gap (c .loop-at .comment) (drop i bs) ≡ suc (gap (c .if-comment .comment) (drop (i + 1) bs)) =
-        elim (c .if-comment .came) [
-          then-comment w ↦ ap (λ b. gap b (drop i bs)) (w .if-comment .taken) ∙ gap-inside bs i (c .loop-at-test .taken) (c .if-comment .comment) (w .comment-is ∙ ap (λ b. not (eqb b 10)) (c .from-c .ensures))
-        | else-comment·then-c-eq37 w ↦ ap (λ b. gap b (drop i bs)) (w .if-comment .left) ∙ gap-percent bs i (c .loop-at-test .taken) (sym (c .from-c .ensures) ∙ w .if-c-eq37 .taken) ∙ ap (λ b. suc (gap b (drop (i + 1) bs))) (sym (w .comment-is))
-        | else-comment·else-c-eq37·else-not-is-blank w ↦ ap (λ b. gap b (drop i bs)) (w .if-comment .left) ∙ gap-blank bs i (c .loop-at-test .taken) (ap blank (sym (c .from-c .ensures)) ∙ sym (w .if-not-is-blank .ensures tt)) ∙ ap (λ b. suc (gap b (drop (i + 1) bs))) (sym (w .comment-is ∙ w .if-comment .left))
-        ] in
+    elim (c .if-comment .came) [
+      | then-comment w ↦ ap (λ b. gap b (drop i bs)) (w .if-comment .taken) ∙ gap-inside bs i (c .loop-at-test .taken) (c .if-comment .comment) (w .comment-is ∙ ap (λ b. not (eqb b 10)) (c .from-c .ensures))
+      | else-comment·then-c-eq37 w ↦ ap (λ b. gap b (drop i bs)) (w .if-comment .left) ∙ gap-percent bs i (c .loop-at-test .taken) (sym (c .from-c .ensures) ∙ w .if-c-eq37 .taken) ∙ ap (λ b. suc (gap b (drop (i + 1) bs))) (sym (w .comment-is))
+      | else-comment·else-c-eq37·else-not-is-blank w ↦ ap (λ b. gap b (drop i bs)) (w .if-comment .left) ∙ gap-blank bs i (c .loop-at-test .taken) (ap blank (sym (c .from-c .ensures)) ∙ sym (w .if-not-is-blank .ensures tt)) ∙ ap (λ b. suc (gap b (drop (i + 1) bs))) (sym (w .comment-is ∙ w .if-comment .left))
+    ] in
     (omega arith, omega (arith, step, c .loop-at .inv .1))
 
 pub returns : need.returns

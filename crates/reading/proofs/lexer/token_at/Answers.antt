@@ -15,7 +15,7 @@ returns-then-not-is-small c =
     let i = c .args .at in
     let byte = c .from .ensures in
     let other : front i (drop i bs) ≡ no-token i =
-        front-else bs i (c .pre) (λ e. omega (arith, byte)) (λ e. omega (arith, byte)) (λ e. omega (arith, byte)) ∙ ap (λ b. cond b (word i (suc (run (drop (i + 1) bs))) (drop i bs)) (no-token i)) (ap small (sym byte) ∙ sym (c .if-not-is-small .ensures tt)) in
+    front-else bs i (c .pre) (λ e. omega (arith, byte)) (λ e. omega (arith, byte)) (λ e. omega (arith, byte)) ∙ ap (λ b. cond b (word i (suc (run (drop (i + 1) bs))) (drop i bs)) (no-token i)) (ap small (sym byte) ∙ sym (c .if-not-is-small .ensures tt)) in
     record { tells = ap (lexical-fault (c .args .text)) other; within = tt }
 
 pub returns-in-44 : need.returns-in-44
@@ -35,5 +35,5 @@ returns-else-not-is-small c =
     let i = c .args .at in
     let byte = c .from .ensures in
     let at-word : front i (drop i bs) ≡ word i (suc (run (drop (i + 1) bs))) (drop i bs) =
-        front-else bs i (c .pre) (λ e. omega (arith, byte)) (λ e. omega (arith, byte)) (λ e. omega (arith, byte)) ∙ ap (λ b. cond b (word i (suc (run (drop (i + 1) bs))) (drop i bs)) (no-token i)) (ap small (sym byte) ∙ sym (c .if-not-is-small .ensures tt)) in
+    front-else bs i (c .pre) (λ e. omega (arith, byte)) (λ e. omega (arith, byte)) (λ e. omega (arith, byte)) ∙ ap (λ b. cond b (word i (suc (run (drop (i + 1) bs))) (drop i bs)) (no-token i)) (ap small (sym byte) ∙ sym (c .if-not-is-small .ensures tt)) in
     record { tells = subst (λ l. Tells-at (c .args .text) i l (c .word-at .result)) (sym at-word) (c .word-at .ensures .tells); within = c .word-at .ensures .within }

@@ -18,8 +18,8 @@ returns c =
     let ends = c .skip-name-after .ensures .value in
     let size : c .skip-name-after .result - c .args .at ≡ n = omega (arith, ends) in
     let other : sameBytes (take (c .skip-name-after .result - c .args .at) rest) (codes "not") ≡ false =
-        same-from-decides _ _ (sameBytes-decides _ _) (matches-decides _ _ _ (c .eq .ensures)) ∙ c .if-eq .left in
+    same-from-decides _ _ (sameBytes-decides _ _) (matches-decides _ _ _ (c .eq .ensures)) ∙ c .if-eq .left in
     record {
       tells = word-name (c .args .at) n (c .skip-name-after .result) rest (omega (arith, ends)) (omega (arith, size, c .if-after-at-gt-LONGEST-NAME .left)) (ap (λ k. sameBytes (take k rest) (codes "not")) (sym size) ∙ other);
-      within = (omega arith, c .skip-name-after .ensures .within)
+      within = (omega arith, c .skip-name-after .ensures .within);
     }

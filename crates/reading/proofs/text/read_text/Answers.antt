@@ -20,8 +20,7 @@ use Rattle.reading.proofs.text.read_text.Needs as need
 
 pub loop-draft-holds : need.loop-draft-holds
 loop-draft-holds c =
-    let few : length (standings-of (c .args .atoms)) ≤ 96 = omega (arith, length-map (vec-items (c .args .atoms .entries)) standing, c .args .atoms .entries .ok .0, c .args .atoms .few) in
-    (
+    let few : length (standings-of (c .args .atoms)) ≤ 96 = omega (arith, length-map (vec-items (c .args .atoms .entries)) standing, c .args .atoms .entries .ok .0, c .args .atoms .few) in (
       c .new-lexer .ensures .text ∙ sym (c .new-draft .ensures .text),
       c .new-lexer .ensures .bytes,
       refl,
@@ -36,7 +35,7 @@ returns-in-Break-spot c =
     let t = c .new-draft .result .text in
     let lexer = c .loop-draft .lexer in
     let fault : lexical-fault t (lexed text (lexer .at)) ≡ Some (p .0) =
-        ap (λ u. lexical-fault u (lexed text (lexer .at))) (sym (c .loop-draft .inv .0)) ∙ ap (λ bs. lexical-fault (lexer .text) (lexed bs (lexer .at))) (sym (c .loop-draft .inv .1)) ∙ c .in-Break-spot .ensures tt .tells ∙ ap Some (sym (p .2)) in
+    ap (λ u. lexical-fault u (lexed text (lexer .at))) (sym (c .loop-draft .inv .0)) ∙ ap (λ bs. lexical-fault (lexer .text) (lexed bs (lexer .at))) (sym (c .loop-draft .inv .1)) ∙ c .in-Break-spot .ensures tt .tells ∙ ap Some (sym (p .2)) in
     let whole = as-fresh (c .args .text) text (standings-of (c .args .atoms)) t (state-of (c .new-draft .result)) (Err (p .0)) (c .new-draft .ensures .text) (c .new-draft .ensures .state) (c .loop-draft .inv .4 (Err (p .0)) (no-word (p .0) fault)) in
     rw (p .1) (inr (read-short (c .args .text) text (standings-of (c .args .atoms)) (Err (p .0)) (c .if-bytes-gt-LONGEST-TEXT .left) whole))
 
@@ -48,8 +47,7 @@ loop-draft-again c =
     let d′ = state-of (c .take .last .self) in
     let w = word-of (c .in-Some .spot .token) in
     let next = ap (λ bs. lexed bs at) (sym (c .loop-draft .inv .1)) ∙ subst (λ o. Tells (c .loop-draft .lexer .text) (lexed (c .loop-draft .lexer .bytes .now) at) (c .next .last .self .at) (Ok o)) (c .in-Some .is) (c .in-Continue-spot .ensures tt .tells) in
-    let took : step (c .new-draft .result .text) (c .in-Some .spot .at) d w ≡ Ok d′ = ap (λ t. step t (c .in-Some .spot .at) d w) (sym (c .loop-draft .inv .2)) ∙ c .in-Continue-take .ensures tt .state in
-    (
+    let took : step (c .new-draft .result .text) (c .in-Some .spot .at) d w ≡ Ok d′ = ap (λ t. step t (c .in-Some .spot .at) d w) (sym (c .loop-draft .inv .2)) ∙ c .in-Continue-take .ensures tt .state in (
       c .next .ensures .text ∙ c .loop-draft .inv .0,
       ap (λ b. b .now) (c .next .ensures .bytes) ∙ c .loop-draft .inv .1,
       c .take .ensures .text ∙ c .loop-draft .inv .2,
@@ -69,9 +67,9 @@ returns-in-Break-take c =
     rw (p .1)
     (⊎-elim (λ none. inl (p .2 ∙ none))
     (λ fault.
-        let step-fault : step t (c .in-Some .spot .at) d w ≡ Err (p .0) = ap (λ u. step u (c .in-Some .spot .at) d w) (sym (c .loop-draft .inv .2)) ∙ fault ∙ ap Err (sym (p .2)) in
-        let whole = as-fresh (c .args .text) text (standings-of (c .args .atoms)) t (state-of (c .new-draft .result)) (Err (p .0)) (c .new-draft .ensures .text) (c .new-draft .ensures .state) (c .loop-draft .inv .4 (Err (p .0)) (refused (c .in-Some .spot .at) (c .next .last .self .at) w (p .0) next step-fault)) in
-        inr (read-short (c .args .text) text (standings-of (c .args .atoms)) (Err (p .0)) (c .if-bytes-gt-LONGEST-TEXT .left) whole))
+    let step-fault : step t (c .in-Some .spot .at) d w ≡ Err (p .0) = ap (λ u. step u (c .in-Some .spot .at) d w) (sym (c .loop-draft .inv .2)) ∙ fault ∙ ap Err (sym (p .2)) in
+    let whole = as-fresh (c .args .text) text (standings-of (c .args .atoms)) t (state-of (c .new-draft .result)) (Err (p .0)) (c .new-draft .ensures .text) (c .new-draft .ensures .state) (c .loop-draft .inv .4 (Err (p .0)) (refused (c .in-Some .spot .at) (c .next .last .self .at) w (p .0) next step-fault)) in
+    inr (read-short (c .args .text) text (standings-of (c .args .atoms)) (Err (p .0)) (c .if-bytes-gt-LONGEST-TEXT .left) whole))
     (c .in-Break-take .ensures tt .state))
 
 pub returns : need.returns

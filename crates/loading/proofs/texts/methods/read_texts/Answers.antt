@@ -34,11 +34,11 @@ returns-in-Break-site c =
 pub ghost-result : need.ghost-result
 ghost-result c =
     let chain : Chain (c .args .plan .now) (c .args .faults .now) (c .args .site .now) (c .in-Continue-plan .plan) (c .in-Continue-plan .atoms) (c .in-Continue-faults .faults) (c .in-Continue-faults .atoms) (c .in-Continue-site .site) (c .in-Continue-site .atoms) =
-        record { plan = record { none = standings-of (c .new-atoms .result); empty = c .new-atoms .ensures; ran = c .in-Continue-plan .ensures tt }; faults = c .in-Continue-faults .ensures tt; site = c .in-Continue-site .ensures tt } in
+    record { plan = record { none = standings-of (c .new-atoms .result); empty = c .new-atoms .ensures; ran = c .in-Continue-plan .ensures tt }; faults = c .in-Continue-faults .ensures tt; site = c .in-Continue-site .ensures tt } in
     (plan-below chain, (faults-below chain, (site-below chain, tt)))
 
 pub returns : need.returns
 returns c =
     let chain : Chain (c .args .plan .now) (c .args .faults .now) (c .args .site .now) (c .in-Continue-plan .plan) (c .in-Continue-plan .atoms) (c .in-Continue-faults .faults) (c .in-Continue-faults .atoms) (c .in-Continue-site .site) (c .in-Continue-site .atoms) =
-        record { plan = record { none = standings-of (c .new-atoms .result); empty = c .new-atoms .ensures; ran = c .in-Continue-plan .ensures tt }; faults = c .in-Continue-faults .ensures tt; site = c .in-Continue-site .ensures tt } in
+    record { plan = record { none = standings-of (c .new-atoms .result); empty = c .new-atoms .ensures; ran = c .in-Continue-plan .ensures tt }; faults = c .in-Continue-faults .ensures tt; site = c .in-Continue-site .ensures tt } in
     all-gives chain

@@ -16,10 +16,10 @@ returns c =
     let ended = c .replace-rule .result in
     let rule : model (c .replace-rule .last .dest) ≡ no-rule = ap model (c .replace-rule .ensures .after) ∙ c .no-rule-fresh .ensures in
     let rules : models (vec-items (c .push .last .self)) ≡ models (vec-items (d .rules)) ++ model (d .rule) ∷ [] =
-        ap models (pushed {was = vec-items (d .rules)} {xs = vec-items (d .rules)} (ended ∷ []) refl (c .in-Continue-push .was tt) (c .push .ensures .items)) ∙ map-push model (vec-items (d .rules)) ended
-        ∙ ap (λ r. models (vec-items (d .rules)) ++ model r ∷ []) (c .replace-rule .ensures .value) in
+    ap models (pushed {was = vec-items (d .rules)} {xs = vec-items (d .rules)} (ended ∷ []) refl (c .in-Continue-push .was tt) (c .push .ensures .items)) ∙ map-push model (vec-items (d .rules)) ended
+    ∙ ap (λ r. models (vec-items (d .rules)) ++ model r ∷ []) (c .replace-rule .ensures .value) in
     let places : vec-items (c .push-2 .last .self) ≡ vec-items (d .places) ++ d .begun ∷ [] =
-        pushed {was = vec-items (d .places)} {xs = vec-items (d .places)} (d .begun ∷ []) refl (c .in-Continue-push-2 .was tt) (c .push-2 .ensures .items) in
+    pushed {was = vec-items (d .places)} {xs = vec-items (d .places)} (d .begun ∷ []) refl (c .in-Continue-push-2 .was tt) (c .push-2 .ensures .items) in
     let same : _≡_ {A = State} (with-close (c .args .next) (state-of d)) (record { phase = c .args .next; begun = d .begun; rule = model (c .replace-rule .last .dest); rules = models (vec-items (c .push .last .self)); places = vec-items (c .push-2 .last .self); atoms = standings-of (d .atoms) }) =
-        sym (λ i. record { phase = c .args .next; begun = d .begun; rule = rule i; rules = rules i; places = places i; atoms = standings-of (d .atoms) }) in
+    sym (λ i. record { phase = c .args .next; begun = d .begun; rule = rule i; rules = rules i; places = places i; atoms = standings-of (d .atoms) }) in
     record { state = ap Ok same; text = refl }

@@ -40,10 +40,10 @@ returns c =
     let bound = index-bound (c .args .name .now) (standings old) in
     let entry : Atom = record { text = c .args .text; at = c .args .at; name = c .args .name } in
     let took : entered (c .args .text) (c .args .at) (c .args .name .now) (standings old) ≡ Ok (standings-of (c .if-number-len .self)) =
-        elim (c .if-number-len .came) [
-          then-number-len·else-number-ge-MOST-ATOMS·in-Continue-push w ↦
-            entered-new (c .args .text) (c .args .at) (c .args .name .now) (standings old) (omega (arith, long, held, found)) (omega (arith, long, held))
-            ∙ ap Ok (sym (ap standings-of (w .self-is) ∙ ap standings (pushed {was = old} {xs = old} (entry ∷ []) refl (w .in-Continue-push .was tt) (w .push .ensures .items)) ∙ map-push standing old entry))
-        | else-number-len w ↦ entered-known (c .args .text) (c .args .at) (c .args .name .now) (standings old) (omega (arith, long, held, found, bound)) ∙ ap Ok (sym (ap standings-of (w .self-is)))
-        ] in
+    elim (c .if-number-len .came) [
+      | then-number-len·else-number-ge-MOST-ATOMS·in-Continue-push w ↦
+          entered-new (c .args .text) (c .args .at) (c .args .name .now) (standings old) (omega (arith, long, held, found)) (omega (arith, long, held))
+          ∙ ap Ok (sym (ap standings-of (w .self-is) ∙ ap standings (pushed {was = old} {xs = old} (entry ∷ []) refl (w .in-Continue-push .was tt) (w .push .ensures .items)) ∙ map-push standing old entry))
+      | else-number-len w ↦ entered-known (c .args .text) (c .args .at) (c .args .name .now) (standings old) (omega (arith, long, held, found, bound)) ∙ ap Ok (sym (ap standings-of (w .self-is)))
+    ] in
     (found, took)
