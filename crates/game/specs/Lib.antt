@@ -1,2 +1,7 @@
+pub mod Sets
 pub mod Rules
 pub mod Sides
+pub mod AnswerSets
+pub mod Game
+pub mod Published
+pub mod Strata
