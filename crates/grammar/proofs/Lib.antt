@@ -12,3 +12,4 @@ pub mod Limits
 pub mod Sound
 pub mod Complete
 pub mod Reading
+pub mod Outcomes

@@ -59,5 +59,5 @@ Allowed-is-loaded = (n : ℕ) (p f s : List ℕ) (w : Sources) → Allowed n p f
 -- a side and three texts have one outcome at most, and one at least
 abbrev pub One-loading : Type 0
 One-loading =
-  ((n : ℕ) (p f s : List ℕ) (r r′ : Result (Side × Three) Fault) → Loads n p f s r → Loads n p f s r′ → r ≡ r′)
-  × ((n : ℕ) (p f s : List ℕ) → (r : Result (Side × Three) Fault) × Loads n p f s r)
+    ((n : ℕ) (p f s : List ℕ) (r r′ : Result (Side × Three) Fault) → Loads n p f s r → Loads n p f s r′ → r ≡ r′)
+    × ((n : ℕ) (p f s : List ℕ) → (r : Result (Side × Three) Fault) × Loads n p f s r)

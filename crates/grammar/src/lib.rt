@@ -1,5 +1,6 @@
 // What a text may be, in the grammar's own words, and that reading accepts exactly that.
 ghost use Rattle.grammar.specs.Accepted.{Read-is-spelled, Spelled-is-read, One-reading};
+ghost use Rattle.grammar.specs.Loaded.{One-loading};
 
 // A text that is read without refusal is rules of the grammar within the limits, and what is read is those rules over numbered atoms.
 pub fn read_is_spelled()
@@ -14,4 +15,9 @@ pub fn spelled_is_read()
 // Each text has one reading, and no more.
 pub fn one_reading()
     ensures { λ _. ⌜ One-reading ⌝ }
+{}
+
+// A side and three texts have one outcome, and no more.
+pub fn one_loading()
+    ensures { λ _. ⌜ One-loading ⌝ }
 {}
