@@ -13,3 +13,5 @@ pub mod Sound
 pub mod Complete
 pub mod Reading
 pub mod Outcomes
+pub mod Numbers
+pub mod Apart
