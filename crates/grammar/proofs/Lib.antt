@@ -15,3 +15,5 @@ pub mod Reading
 pub mod Outcomes
 pub mod Numbers
 pub mod Apart
+pub mod Placed
+pub mod Loading

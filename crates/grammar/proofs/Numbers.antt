@@ -2,7 +2,7 @@
 use mathlib.Core.Path.{_≡_, refl, sym, _∙_, ap, ap₂}
 use mathlib.Core.Bool.{Bool, true, false, cond, _||_}
 use mathlib.Core.List.{List, [], _∷_, _++_, map}
-use Prim.Native.Nat.{ℕ, suc}
+use Prim.Native.Nat.{suc}
 use native.Mathlib.Omega.{arith}
 use lib.Dec.{eqb}
 use Rattle.std.specs.shelf.Lists.{All}
@@ -11,7 +11,6 @@ use Rattle.std.proofs.shelf.Tests.{false≢true}
 use Rattle.std.proofs.shelf.Ways.{same-from-decides, decides-like, decides-eqb}
 use Rattle.std.proofs.shelf.Equals.{sameBytes-decides}
 use Rattle.std.specs.declared.option.Option.the-variants.{Some, None}
-use Rattle.game.specs.Rules.{Rule}
 use Rattle.grammar.specs.Grammar.{Name, Literal, plain, negated, Written, fact, rule, literal-name, rule-names, names, known, number, plains, negateds, numbered}
 
 -- a name with the number of a known one is that one
