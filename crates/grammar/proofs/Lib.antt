@@ -16,4 +16,6 @@ pub mod Outcomes
 pub mod Numbers
 pub mod Apart
 pub mod Placed
+pub mod Told
+pub mod Turns
 pub mod Loading

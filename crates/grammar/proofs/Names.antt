@@ -84,7 +84,10 @@ stays n (m ∷ ns) t k = let here = join-keeps m t n k in let then = stays n ns 
 pub number-final : (n : Name) (ns t : List Name) → number (with-names t (n ∷ ns)) n ≡ number t n
 number-final n ns t = stays n ns (join n t) (known-join n t) .1 ∙ number-join n t
 
-pub all-known : (ns t : List Name) → All (λ n. known n (with-names t ns) ≡ true) ns
+abbrev pub Known : List Name → Name → Type 0
+Known t n = known n t ≡ true
+
+pub all-known : (ns t : List Name) → All (Known (with-names t ns)) ns
 all-known [] t = tt
 all-known (n ∷ ns) t = (stays n ns (join n t) (known-join n t) .0, all-known ns (join n t))
 

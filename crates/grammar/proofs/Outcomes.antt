@@ -83,6 +83,7 @@ side-so n x = go (eqb 1 n) (eqb 2 n) (eqb-true 1 n) (eqb-true 2 n)
     go false true one two e = let same : every-plan ≡ x = cc in rw (← same) (two refl)
     go false false one two e = never (cc)
 
+-- question 9 ends a load that came so far
 abbrev judged : Side → Three → Option Fault → Result (Side × Three) Fault
 judged x t None = Ok (x, t)
 judged x t (Some e) = Err e
