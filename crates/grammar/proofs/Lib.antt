@@ -12,3 +12,10 @@ pub mod Limits
 pub mod Sound
 pub mod Complete
 pub mod Reading
+pub mod Outcomes
+pub mod Numbers
+pub mod Apart
+pub mod Placed
+pub mod Told
+pub mod Turns
+pub mod Loading

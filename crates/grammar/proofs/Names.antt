@@ -6,6 +6,7 @@ use Prim.Native.Nat.{ℕ, suc, _<_, _≤_}
 use native.Mathlib.Omega.{arith}
 use lib.Dec.{ltb}
 use lib.ListN.{length}
+use Rattle.std.specs.shelf.Lists.{All}
 use Rattle.std.specs.shelf.Text.{sameBytes}
 use Rattle.std.proofs.shelf.Lists.{map-push, length-push, length-map}
 use Rattle.std.proofs.shelf.Tests.{ltb-true, ltb-false, lt-ltb, or-right, false≢true, cond-true, cond-false, cond-both}
@@ -74,13 +75,21 @@ module _ (n : Name) (t : List Name) where
   join-keeps : (m : Name) → known m t ≡ true → (known m (join n t) ≡ true) × (number (join n t) m ≡ number t m)
   join-keeps m k = join-is (λ l. (known m l ≡ true) × (number l m ≡ number t m)) (λ e. (k, refl)) (known-append m t (n ∷ []) k)
 
-number-kept : (n : Name) (ns t : List Name) → known n t ≡ true → number (with-names t ns) n ≡ number t n
-number-kept n [] t k = refl
-number-kept n (m ∷ ns) t k = let kept = join-keeps m t n k in number-kept n ns (join m t) (kept .0) ∙ kept .1
+-- a name that is known stays so, with its number, when more names come
+pub stays : (n : Name) (ns t : List Name) → known n t ≡ true → (known n (with-names t ns) ≡ true) × (number (with-names t ns) n ≡ number t n)
+stays n [] t k = (k, refl)
+stays n (m ∷ ns) t k = let here = join-keeps m t n k in let then = stays n ns (join m t) (here .0) in (then .0, then .1 ∙ here .1)
 
 -- a name has the number in the end that it has when it comes
 pub number-final : (n : Name) (ns t : List Name) → number (with-names t (n ∷ ns)) n ≡ number t n
-number-final n ns t = number-kept n ns (join n t) (known-join n t) ∙ number-join n t
+number-final n ns t = stays n ns (join n t) (known-join n t) .1 ∙ number-join n t
+
+abbrev pub Known : List Name → Name → Type 0
+Known t n = known n t ≡ true
+
+pub all-known : (ns t : List Name) → All (Known (with-names t ns)) ns
+all-known [] t = tt
+all-known (n ∷ ns) t = (stays n ns (join n t) (known-join n t) .0, all-known ns (join n t))
 
 pub with-names-append : (ns ms t : List Name) → with-names t (ns ++ ms) ≡ with-names (with-names t ns) ms
 with-names-append [] ms t = refl
