@@ -5,3 +5,4 @@ pub mod AnswerSets
 pub mod Game
 pub mod Published
 pub mod Strata
+pub mod Derives
