@@ -1,18 +1,22 @@
 use mathlib.Core.Path.{sym, subst, _∙_}
 use mathlib.Core.Logic.{inr}
-use Rattle.std.specs.declared.result.Result.the-variants.{Err}
+use Rattle.std.specs.declared.result.Result.the-variants.{Ok, Err}
 use Rattle.std.proofs.shelf.Results.{err-from-errBy}
 use Rattle.reading.specs.Loads.{Three-read, Loads, wrong-side, unread, head-refused, loads}
 use Rattle.loading.specs.Sided.{side-of}
 use Rattle.loading.specs.Read.{three-of}
+use Rattle.loading.proofs.Exactly.{both}
 use Rattle.loading.proofs.Threes.{told}
 use Rattle.loading.proofs.game.read_game.Needs as need
 
 pub returns-in-Break-side : need.returns-in-Break-side
 returns-in-Break-side c =
     let e = err-from-errBy (c .from-residual .result) (c .from-residual .ensures .1) in
+    let p = c .args .plan .now in
+    let f = c .args .faults .now in
+    let s = c .args .site .now in
     let why = c .in-Break-side .ensures tt in
-    rw (e .1) (inr (subst (λ x. Loads (c .args .side) (c .args .plan .now) (c .args .faults .now) (c .args .site .now) (Err x)) (sym (e .2 ∙ why .0)) (wrong-side (why .1))))
+    both (c .args .side) p f s (c .from-residual .result) (rw (e .1) (inr (subst (λ x. Loads (c .args .side) p f s (Err x)) (sym (e .2 ∙ why .0)) (wrong-side (why .1)))))
 
 pub returns-in-Break-texts : need.returns-in-Break-texts
 returns-in-Break-texts c =
@@ -20,14 +24,19 @@ returns-in-Break-texts c =
     let p = c .args .plan .now in
     let f = c .args .faults .now in
     let s = c .args .site .now in
-    rw (e .1)
-    (told (λ x. Three-read p f s (Err x)) (λ x. Loads (c .args .side) p f s (Err x)) (e .0) _ (e .2) (c .in-Break-texts .ensures tt) (λ x h. unread (side-of (c .in-Continue-side .side)) (c .in-Continue-side .ensures tt) h))
+    both (c .args .side) p f s (c .from-residual-in-Break-texts .result)
+    (rw (e .1) (told (λ x. Three-read p f s (Err x)) (λ x. Loads (c .args .side) p f s (Err x)) (e .0) _ (e .2) (c .in-Break-texts .ensures tt) (λ x h. unread (side-of (c .in-Continue-side .side)) (c .in-Continue-side .ensures tt) h)))
 
 pub returns-in-Break-heads-apart : need.returns-in-Break-heads-apart
 returns-in-Break-heads-apart c =
     let e = err-from-errBy (c .from-residual-in-Break-heads-apart .result) (c .from-residual-in-Break-heads-apart .ensures .1) in
-    rw (e .1)
-    (inr (subst (λ x. Loads (c .args .side) (c .args .plan .now) (c .args .faults .now) (c .args .site .now) (Err x)) (sym (e .2)) (head-refused (side-of (c .in-Continue-side .side)) (three-of (c .in-Continue-texts .texts)) (c .in-Continue-side .ensures tt) (c .in-Continue-texts .ensures tt) (c .in-Break-heads-apart .ensures tt))))
+    let p = c .args .plan .now in
+    let f = c .args .faults .now in
+    let s = c .args .site .now in
+    let refused = head-refused (side-of (c .in-Continue-side .side)) (three-of (c .in-Continue-texts .texts)) (c .in-Continue-side .ensures tt) (c .in-Continue-texts .ensures tt) (c .in-Break-heads-apart .ensures tt) in
+    both (c .args .side) p f s (c .from-residual-in-Break-heads-apart .result) (rw (e .1) (inr (subst (λ x. Loads (c .args .side) p f s (Err x)) (sym (e .2)) refused)))
 
 pub returns : need.returns
-returns c = loads (side-of (c .in-Continue-side .side)) (three-of (c .in-Continue-texts .texts)) (c .in-Continue-side .ensures tt) (c .in-Continue-texts .ensures tt) (c .in-Continue-heads-apart .ensures tt)
+returns c =
+    both (c .args .side) (c .args .plan .now) (c .args .faults .now) (c .args .site .now) (Ok (record { side = c .in-Continue-side .side; texts = c .in-Continue-texts .texts }))
+    (loads (side-of (c .in-Continue-side .side)) (three-of (c .in-Continue-texts .texts)) (c .in-Continue-side .ensures tt) (c .in-Continue-texts .ensures tt) (c .in-Continue-heads-apart .ensures tt))
