@@ -1,0 +1,2 @@
+// Sets of atoms as rows of marks, and the smallest set that is closed under a step.
+pub mod row;
