@@ -6,7 +6,7 @@ use mathlib.Core.List.{List, [], _∷_}
 use Prim.Native.Nat.{ℕ, zero, suc, _<_, _≤_, _+_}
 use native.Mathlib.Omega.{arith}
 use lib.ListN.{length, getD, drop}
-use Rattle.std.proofs.shelf.Lists.{ext-getD, at-drop-more}
+use Rattle.std.proofs.shelf.Lists.{ext-getD, getD-past, at-drop-more}
 use Rattle.std.proofs.shelf.Tests.{cases-lt, cond-true, cond-false, cases-bool, both-ways, false≢true, or-cases, or-left, or-right, and-parts, and-from, not-true, not-from-false}
 use Rattle.game.specs.Sets.{Row, In, Within, union}
 use Rattle.closure.specs.Rows.{marked, minus}
@@ -76,3 +76,46 @@ marked-step s i n false l e =
     let here : marked (drop i s) ≡ cond (getD s i false) (suc (marked (drop (i + 1) s))) (marked (drop (i + 1) s)) = at-drop-more marked s i false l in
     let more : marked (drop i s) ≡ marked (drop (i + 1) s) = here ∙ cond-false _ _ _ e in
     omega arith
+
+-- Inclusion and counts.
+
+pub in-below : (s : Row) (a : ℕ) → In a s → a < length s
+in-below s a h = ⊎-elim (λ l. l) (λ past. absurd (false≢true (sym (getD-past s a false past) ∙ h))) (cases-lt a (length s))
+
+pub same-rows : (s t : Row) → length s ≡ length t → Within s t → Within t s → s ≡ t
+same-rows s t e p q = ext-getD false s t e (λ k l. same-bool (getD s k false) (getD t k false) (p k) (q k))
+  where
+    same-bool : (x y : Bool) → (x ≡ true → y ≡ true) → (y ≡ true → x ≡ true) → x ≡ y
+    same-bool true y p q = sym (p refl)
+    same-bool false true p q = q refl
+    same-bool false false p q = refl
+
+pub marked-length : (s : Row) → marked s ≤ length s
+marked-length [] = omega arith
+marked-length (true ∷ s) = omega (arith, marked-length s)
+marked-length (false ∷ s) = omega (arith, marked-length s)
+
+tail-within : (x y : Bool) (s t : Row) → Within (x ∷ s) (y ∷ t) → Within s t
+tail-within x y s t w a h = w (suc a) h
+
+pub marked-within : (s t : Row) → length s ≡ length t → Within s t → marked s ≤ marked t
+marked-within [] t e w = omega arith
+marked-within (x ∷ s) [] e w = absurd (omega arith)
+marked-within (true ∷ s) (true ∷ t) e w = omega (arith, marked-within s t (omega arith) (tail-within true true s t w))
+marked-within (true ∷ s) (false ∷ t) e w = absurd (false≢true (w zero refl))
+marked-within (false ∷ s) (true ∷ t) e w = omega (arith, marked-within s t (omega arith) (tail-within false true s t w))
+marked-within (false ∷ s) (false ∷ t) e w = omega (arith, marked-within s t (omega arith) (tail-within false false s t w))
+
+pub same-marked : (s t : Row) → length s ≡ length t → Within s t → marked s ≡ marked t → s ≡ t
+same-marked [] [] e w m = refl
+same-marked [] (y ∷ t) e w m = absurd (omega arith)
+same-marked (x ∷ s) [] e w m = absurd (omega arith)
+same-marked (true ∷ s) (true ∷ t) e w m = ap (λ r. true ∷ r) (same-marked s t (omega arith) (tail-within true true s t w) (omega arith))
+same-marked (true ∷ s) (false ∷ t) e w m = absurd (false≢true (w zero refl))
+same-marked (false ∷ s) (true ∷ t) e w m = absurd (omega (arith, marked-within s t (omega arith) (tail-within false true s t w)))
+same-marked (false ∷ s) (false ∷ t) e w m = ap (λ r. false ∷ r) (same-marked s t (omega arith) (tail-within false false s t w) (omega arith))
+
+-- a row that includes another and is not it has more marks
+pub more-marked : (s t : Row) → length s ≡ length t → Within s t → (s ≡ t → ⊥) → marked s < marked t
+more-marked s t e w ne =
+    ⊎-elim (λ l. l) (λ le. absurd (ne (same-marked s t e w (omega (arith, marked-within s t e w))))) (cases-lt (marked s) (marked t))

@@ -16,7 +16,7 @@ loop-i-again g c =
     let wide = c .args .self .now .wide in
     let within : i < length s = omega (arith, wide) in
     elim (c .if-self-i .came) [
-      then-self-i w ↦ (omega (arith, w .n-is), omega (arith, w .n-is, marked-step s i (c .loop-i .n) true within (w .if-self-i .taken)))
+      | then-self-i w ↦ (omega (arith, w .n-is), omega (arith, w .n-is, marked-step s i (c .loop-i .n) true within (w .if-self-i .taken)))
       | else-self-i w ↦ (omega (arith, w .n-is), omega (arith, w .n-is, marked-step s i (c .loop-i .n) false within (w .if-self-i .left)))
     ]
 
