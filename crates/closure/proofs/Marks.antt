@@ -119,3 +119,25 @@ same-marked (false ∷ s) (false ∷ t) e w m = ap (λ r. false ∷ r) (same-mar
 pub more-marked : (s t : Row) → length s ≡ length t → Within s t → (s ≡ t → ⊥) → marked s < marked t
 more-marked s t e w ne =
     ⊎-elim (λ l. l) (λ le. absurd (ne (same-marked s t e w (omega (arith, marked-within s t e w))))) (cases-lt (marked s) (marked t))
+
+-- Members of unions and differences.
+
+pub in-union : (s t : Row) (a : ℕ) → In a (union s t) → In a s ⊎ In a t
+in-union s t a h = or-cases (getD s a false) (getD t a false) (sym (getD-union s t a) ∙ h)
+
+pub union-left : (s t : Row) → Within s (union s t)
+union-left s t a h = getD-union s t a ∙ or-left (getD s a false) (getD t a false) h
+
+pub union-right : (s t : Row) → Within t (union s t)
+union-right s t a h = getD-union s t a ∙ or-right (getD s a false) (getD t a false) h
+
+pub in-minus : (s t : Row) (a : ℕ) → In a (minus s t) → In a s × (In a t → ⊥)
+in-minus s t a h =
+    let both = and-parts (getD s a false) (not (getD t a false)) (sym (getD-minus s t a) ∙ h) in
+    (both .0, both-ways (getD t a false) (not-true (getD t a false) (both .1)))
+
+pub minus-in : (s t : Row) (a : ℕ) → In a s → (In a t → ⊥) → In a (minus s t)
+minus-in s t a h out =
+    getD-minus s t a
+    ∙ and-from (getD s a false) (not (getD t a false)) h
+    (not-from-false (getD t a false) (⊎-elim (λ e. absurd (out e)) (λ e. e) (cases-bool (getD t a false))))
