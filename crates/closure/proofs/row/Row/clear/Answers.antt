@@ -1,6 +1,5 @@
 use lib.ListN.{length-replicate}
-use mathlib.Core.Bool.{false}
 use Rattle.closure.proofs.row.Row.clear.Needs as need
 
 pub ghost-result : need.ghost-result
-ghost-result g c = (length-replicate (g .N) false, tt)
+ghost-result g c = (length-replicate (g .N) _, tt)
