@@ -5,15 +5,20 @@ use mathlib.Core.Logic.{_⊎_, inl, inr, ⊎-elim}
 use mathlib.Core.List.{List, [], _∷_}
 use Prim.Native.Nat.{ℕ, zero, suc, _<_, _≤_, _+_}
 use native.Mathlib.Omega.{arith}
-use lib.ListN.{length, getD, drop}
-use Rattle.std.proofs.shelf.Lists.{ext-getD, getD-past, at-drop-more}
-use Rattle.std.proofs.shelf.Tests.{cases-lt, cond-true, cond-false, cases-bool, both-ways, false≢true, or-cases, or-left, or-right, and-parts, and-from, not-true, not-from-false}
+use lib.Dec.{eqb}
+use lib.ListN.{length, getD, set, drop}
+use Rattle.std.proofs.shelf.Lists.{getD-set-same, getD-set-other, ext-getD, getD-past, at-drop-more}
+use Rattle.std.proofs.shelf.Tests.{cases-eq, eq-eqb, ne-eqb, cases-lt, cond-true, cond-false, cases-bool, both-ways, false≢true, or-cases, or-left, or-right, and-parts, and-from, not-true, not-from-false}
 use Rattle.game.specs.Sets.{Row, In, Within, union}
 use Rattle.closure.specs.Rows.{marked, minus}
 
-or-nothing : (x : Bool) → x ≡ (x || false)
+pub or-nothing : (x : Bool) → x ≡ (x || false)
 or-nothing true = refl
 or-nothing false = refl
+
+pub or-assoc : (x y z : Bool) → ((x || y) || z) ≡ (x || (y || z))
+or-assoc true y z = refl
+or-assoc false y z = refl
 
 and-all : (x : Bool) → x ≡ (x && not false)
 and-all true = refl
@@ -40,6 +45,15 @@ pub length-minus : (s t : Row) → length (minus s t) ≡ length s
 length-minus [] t = refl
 length-minus (x ∷ s) [] = refl
 length-minus (x ∷ s) (y ∷ t) = ap suc (length-minus s t)
+
+-- one mark more; past the row's end there is none
+pub getD-put : (s : Row) (i k : ℕ) → k < length s → getD (set s i true) k false ≡ (getD s k false || eqb i k)
+getD-put s i k l =
+    ⊎-elim
+    (λ e. let within : i < length s = omega arith in
+    ap (λ j. getD (set s i true) j false) (sym e) ∙ getD-set-same s i true false within ∙ sym (or-right (getD s k false) (eqb i k) (eq-eqb i k e)))
+    (λ ne. getD-set-other s i k true false (λ e. ne (sym e)) ∙ or-nothing (getD s k false) ∙ ap (λ b. getD s k false || b) (sym (ne-eqb i k ne)))
+    (cases-eq i k)
 
 or-laid : (x y : Bool) → cond y true x ≡ (x || y)
 or-laid true true = refl

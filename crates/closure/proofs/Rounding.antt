@@ -4,12 +4,14 @@ use mathlib.Core.Bool.{Bool, true, false, _||_}
 use mathlib.Core.Logic.{⊎-elim}
 use Prim.Native.Nat.{ℕ, _<_}
 use native.Mathlib.Omega.{arith}
-use lib.ListN.{length, getD}
+use lib.Dec.{eqb}
+use lib.ListN.{length, getD, set}
+use Rattle.std.proofs.shelf.Lists.{length-set}
 use Rattle.std.proofs.shelf.Tests.{or-cases, or-left, or-right}
 use Rattle.game.specs.Sets.{Row, In, Within}
 use Rattle.game.specs.Derives.{Closed, Smallest-closed}
 use Rattle.closure.specs.Steps.{Monotone, Marked, Rounds, still, round}
-use Rattle.closure.proofs.Marks.{in-below}
+use Rattle.closure.proofs.Marks.{in-below, or-nothing, or-assoc, getD-put}
 
 -- a member of the next set is one of the set before it, or follows from that
 pub marked-cases : (n : ℕ) (f : ℕ → Bool) (was is : Row) → Marked n f was is → (P : ℕ → Type 0) → ((a : ℕ) → In a was → P a) → ((a : ℕ) → a < n → f a ≡ true → P a) → (a : ℕ) → In a is → P a
@@ -60,3 +62,19 @@ rounds-smallest n f s r e grows p m = record {
   closed = still-closed n f r m;
   least = rounds-least n f s r e grows p;
 }
+
+-- For the loop of a step's `mark`: nothing marked yet, one atom more, and another test for the same atoms.
+
+pub marked-none : (n : ℕ) (s : Row) → length s ≡ n → Marked n (λ _. false) s s
+marked-none n s e = record { width = e; each = λ a l. or-nothing (getD s a false) }
+
+pub marked-put : (n : ℕ) (f : ℕ → Bool) (was is : Row) (i : ℕ) → Marked n f was is → Marked n (λ a. f a || eqb i a) was (set is i true)
+marked-put n f was is i m = record {
+  width = length-set is i true ∙ m .width;
+  each = λ a l.
+      let below : a < length is = omega (arith, m .width) in
+      getD-put is i a below ∙ ap (λ b. b || eqb i a) (m .each a l) ∙ or-assoc (getD was a false) (f a) (eqb i a);
+}
+
+pub marked-like : (n : ℕ) (f g : ℕ → Bool) (was is : Row) → ((a : ℕ) → a < n → f a ≡ g a) → Marked n f was is → Marked n g was is
+marked-like n f g was is e m = record { width = m .width; each = λ a l. m .each a l ∙ ap (λ b. getD was a false || b) (e a l) }
