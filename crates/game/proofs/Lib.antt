@@ -1,0 +1,2 @@
+pub mod StrataRows
+pub mod Deriving
