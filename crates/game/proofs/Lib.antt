@@ -1,2 +1,5 @@
 pub mod StrataRows
 pub mod Deriving
+pub mod StrataHeaded
+pub mod StrataLevels
+pub mod StrataOnce

@@ -59,5 +59,5 @@ getD-part f [] a = refl
 getD-part f (x ∷ s) zero = refl
 getD-part f (x ∷ s) (suc a) = getD-part (λ b. f (suc b)) s a
 
-pub in-part : (f : ℕ → Bool) (s : Row) (a : ℕ) → Decides (getD (part f s) a false) (In a s × (f a ≡ true))
-in-part f s a = decides-at _ _ (getD-part f s a) (decides-and _ _ (decides-itself (getD s a false)) (decides-itself (f a)))
+pub in-part : (f : ℕ → Bool) (P : ℕ → Type 0) → ((a : ℕ) → Decides (f a) (P a)) → (s : Row) (a : ℕ) → Decides (getD (part f s) a false) (In a s × P a)
+in-part f P each s a = decides-at _ _ (getD-part f s a) (decides-and _ _ (decides-itself (getD s a false)) (each a))
