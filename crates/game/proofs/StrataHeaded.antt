@@ -1,8 +1,8 @@
 -- The headed rules of a program: its rules that have a head. They ask of a set what the program's reduct asks, and forbid nothing.
 use mathlib.Core.Path.{_≡_, refl, ap}
 use mathlib.Core.List.{List, [], _∷_}
-use mathlib.Core.Logic.{_⊎_, inl, inr}
-use Prim.Native.Nat.{ℕ, zero, suc}
+use mathlib.Core.Logic.{inl, inr}
+use Prim.Native.Nat.{ℕ}
 use native.Mathlib.Omega.{arith}
 use Rattle.std.specs.Orderings.{Decides}
 use Rattle.std.specs.shelf.Lists.{Has}
@@ -10,19 +10,8 @@ use Rattle.std.proofs.shelf.Ways.{same-from-decides, decides-like}
 use Rattle.game.specs.Sets.{Row}
 use Rattle.game.specs.Rules.{Head, none, atom, Rule, headed, is-head, Obeys}
 use Rattle.game.specs.AnswerSets.{Smallest, Allowed}
+use Rattle.game.proofs.StrataLists.{has-first, has-later, has-cases}
 use Rattle.game.proofs.Deriving.{is-head-decides}
-
--- ## What a list has, by its first element
-
-has-first : (r : Rule) (rs : List Rule) → Has (r ∷ rs) r
-has-first r rs = (0, omega arith, λ d. refl)
-
-has-later : (r q : Rule) (rs : List Rule) → Has rs q → Has (r ∷ rs) q
-has-later r q rs (k, h, at) = (suc k, omega arith, at)
-
-has-cases : (r q : Rule) (rs : List Rule) → Has (r ∷ rs) q → (r ≡ q) ⊎ Has rs q
-has-cases r q rs (zero, h, at) = inl (at r)
-has-cases r q rs (suc k, h, at) = inr (k, omega arith, at)
 
 -- ## The rules that have a head
 
@@ -74,6 +63,14 @@ is-head-headed rules a =
     let same : Decides (is-head (headed rules) a) ((r : Rule) × Has rules r × (r .head ≡ atom a)) = decides-like _ (λ (r, has, head). (r, headed-has rules r has .0, head)) (λ (r, has, head). (r, has-headed rules r (a, head) has, head)) (is-head-decides (headed rules) a) in
     same-from-decides _ _ same (is-head-decides rules a)
 
+-- rules that the same sets obey have the same smallest sets
+smallest-alike : (rules rules′ : List Rule) (given x s : Row) → ((t : Row) → Obeys rules x t → Obeys rules′ x t) → ((t : Row) → Obeys rules′ x t → Obeys rules x t) → Smallest rules given x s → Smallest rules′ given x s
+smallest-alike rules rules′ given x s on back c = record {
+  around = c .around;
+  obeys = on s (c .obeys);
+  least = λ t e around obeys. c .least t e around (back t obeys);
+}
+
 module _ (rules : List Rule) where
   pub obeys-headed : (x s : Row) → Obeys rules x s → Obeys (headed rules) x s
   obeys-headed x s obeys r a has = obeys r a (headed-has rules r has .0)
@@ -82,18 +79,10 @@ module _ (rules : List Rule) where
   headed-obeys x s obeys r a has head = obeys r a (has-headed rules r (a, head) has) head
 
   pub smallest-headed : (given x s : Row) → Smallest rules given x s → Smallest (headed rules) given x s
-  smallest-headed given x s c = record {
-    around = c .around;
-    obeys = obeys-headed x s (c .obeys);
-    least = λ t e around obeys. c .least t e around (headed-obeys x t obeys);
-  }
+  smallest-headed given x s = smallest-alike rules (headed rules) given x s (obeys-headed x) (headed-obeys x)
 
   pub headed-smallest : (given x s : Row) → Smallest (headed rules) given x s → Smallest rules given x s
-  headed-smallest given x s c = record {
-    around = c .around;
-    obeys = headed-obeys x s (c .obeys);
-    least = λ t e around obeys. c .least t e around (obeys-headed x t obeys);
-  }
+  headed-smallest given x s = smallest-alike (headed rules) rules given x s (headed-obeys x) (obeys-headed x)
 
   pub headed-allowed : (s : Row) → Allowed (headed rules) s
   headed-allowed s r has none′ kept plain = let (a, head) = headed-has rules r has .1 in no-head none′ head

@@ -1,15 +1,12 @@
 -- Where levels fit, a rule asks of a set only what stands no higher than its head.
 use mathlib.Core.Path.{_≡_}
-use mathlib.Core.List.{List, [], _∷_}
+use mathlib.Core.List.{List}
 use Prim.Native.Nat.{ℕ, _≤_, _<_}
-use Rattle.std.specs.shelf.Lists.{All, Has}
+use Rattle.std.specs.shelf.Lists.{Has}
 use Rattle.game.specs.Sets.{Row, In}
 use Rattle.game.specs.Rules.{Rule, atom, Kept, Plain-in}
 use Rattle.game.specs.Strata.{Leveled}
-
-all-both : {X : Type 0} (P Q R : X → Type 0) → ((x : X) → P x → Q x → R x) → (xs : List X) → All P xs → All Q xs → All R xs
-all-both P Q R f [] p q = tt
-all-both P Q R f (x ∷ xs) (p, ps) (q, qs) = (f x p q, all-both P Q R f xs ps qs)
+use Rattle.game.proofs.StrataLists.{all-both}
 
 module _ {rules : List Rule} {level : ℕ → ℕ} (leveled : Leveled rules level) (r : Rule) (a : ℕ) (has : Has rules r) (head : r .head ≡ atom a) (s t : Row) where
   -- plain atoms carry over to a set that has the same atoms up to the head's level

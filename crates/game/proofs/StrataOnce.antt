@@ -44,6 +44,7 @@ module _ {rules : List Rule} {level : ℕ → ℕ} (leveled : Leveled rules leve
       let in-x : level a < suc k → In a x = λ low. own-x .obeys r a has head (kept-below leveled r a has head y x (λ b l. follows b (omega arith)) kept) (plain-upto leveled r a has head t x (λ b l i. in-shared level (suc k) x y b .0 i .1 (omega arith)) plain) in
       in-shared level (suc k) x y a .1 (own-y .obeys r a has head kept (plain-grows t y r (shared-within (suc k)) plain), in-x)
 
+  -- y, the smallest set for its reduct, has no more than the shared atoms
   follows-next : (k : ℕ) → Follows level k x y → Follows level (suc k) y x
   follows-next k follows a low i =
       let t : Row = shared level (suc k) x y in

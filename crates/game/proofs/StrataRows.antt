@@ -15,12 +15,6 @@ use Rattle.game.specs.Sets.{Row, In, Within, union}
 pub decides-itself : (b : Bool) → Decides b (b ≡ true)
 decides-itself b = (λ e. e, λ e. e)
 
-pub within-itself : (s : Row) → Within s s
-within-itself s a h = h
-
-pub within-trans : (s t u : Row) → Within s t → Within t u → Within s u
-within-trans s t u h k a i = k a (h a i)
-
 -- two rows of one length with the same members are one row
 pub same-rows : (s t : Row) → length s ≡ length t → Within s t → Within t s → s ≡ t
 same-rows s t e h k = ext-getD false s t e (λ a _. same-from-decides (getD s a false) (getD t a false) (decides-itself (getD s a false)) (k a, h a))
