@@ -34,7 +34,7 @@ no-rule : Rule
 no-rule = record { head = none; plain = []; negated = [] }
 
 -- a test of each rule in turn decides that some rule passes
-decides-some : (p : Rule → Bool) (P : Rule → Type 0) (f : List Rule → Bool) → ((r : Rule) → Decides (p r) (P r)) → f [] ≡ false → ((r : Rule) (rs : List Rule) → f (r ∷ rs) ≡ (p r || f rs)) → (rules : List Rule) → Decides (f rules) ((r : Rule) × Has rules r × P r)
+pub decides-some : (p : Rule → Bool) (P : Rule → Type 0) (f : List Rule → Bool) → ((r : Rule) → Decides (p r) (P r)) → f [] ≡ false → ((r : Rule) (rs : List Rule) → f (r ∷ rs) ≡ (p r || f rs)) → (rules : List Rule) → Decides (f rules) ((r : Rule) × Has rules r × P r)
 decides-some p P f each none′ more rules = decides-like (f rules) (λ (k, h, at). (getD rules k no-rule, has-getD rules k no-rule h, at no-rule)) (λ (r, (k, h, at), q). (k, h, λ d. rw (at d) q)) (decides-by-or p P f each none′ more rules)
 
 pub is-head-decides : (rules : List Rule) (a : ℕ) → Decides (is-head rules a) ((r : Rule) × Has rules r × (r .head ≡ atom a))

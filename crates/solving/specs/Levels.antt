@@ -1,0 +1,29 @@
+-- Levels of atoms as a list, and whether they fit the rules.
+use mathlib.Core.Path.{_≡_}
+use mathlib.Core.Bool.{Bool, true, false, _&&_}
+use mathlib.Core.List.{List, [], _∷_}
+use Prim.Native.Nat.{ℕ}
+use lib.Dec.{leb, ltb}
+use lib.ListN.{getD}
+use Rattle.game.specs.Rules.{Head, none, atom, Rule}
+
+-- the level of an atom
+abbrev pub level-in : List ℕ → ℕ → ℕ
+level-in levels a = getD levels a 0
+
+abbrev pub none-above : List ℕ → ℕ → List ℕ → Bool
+none-above levels a [] = true
+none-above levels a (b ∷ bs) = leb (level-in levels b) (level-in levels a) && none-above levels a bs
+
+abbrev pub all-beneath : List ℕ → ℕ → List ℕ → Bool
+all-beneath levels a [] = true
+all-beneath levels a (b ∷ bs) = ltb (level-in levels b) (level-in levels a) && all-beneath levels a bs
+
+abbrev pub rule-leveled : List ℕ → Head → Rule → Bool
+rule-leveled levels none r = true
+rule-leveled levels (atom a) r = none-above levels a (r .plain) && all-beneath levels a (r .negated)
+
+-- each head stands no lower than its plain body atoms, and above its negated ones
+abbrev pub leveled : List ℕ → List Rule → Bool
+leveled levels [] = true
+leveled levels (r ∷ rs) = rule-leveled levels (r .head) r && leveled levels rs

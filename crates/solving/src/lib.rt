@@ -1,0 +1,6 @@
+// Decides answer sets: the reduct and the dependency edges as growing steps, the test, strata, levels and judgement.
+pub mod answer;
+mod constraints;
+mod literals;
+mod picking;
+mod reduct;
