@@ -1,6 +1,6 @@
 -- What is asked of rows of marks besides union and inclusion.
-use mathlib.Core.Bool.{Bool, not, _&&_, cond}
-use mathlib.Core.List.{List, [], _∷_}
+use mathlib.Core.Bool.{not, _&&_, cond}
+use mathlib.Core.List.{[], _∷_}
 use Prim.Native.Nat.{ℕ, suc}
 use Rattle.game.specs.Sets.{Row}
 

@@ -3,7 +3,7 @@ use mathlib.Core.Path.{_≡_}
 use mathlib.Core.Bool.{Bool, true, false, _||_}
 use Prim.Native.Nat.{ℕ, _<_}
 use lib.ListN.{length, getD}
-use Rattle.game.specs.Sets.{Row, In, Within}
+use Rattle.game.specs.Sets.{Row, Within}
 
 -- what follows from a set follows from any larger one, among rows of n marks
 abbrev pub Monotone : ℕ → (Row → ℕ → Bool) → Type 0

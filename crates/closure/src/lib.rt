@@ -2,3 +2,5 @@
 pub mod closing;
 pub mod row;
 pub mod step;
+#[cfg(test)]
+mod tests;

@@ -1,6 +1,6 @@
 // A set of atoms below N, as a row of N marks.
 ghost use mathlib.Core.Path.{_≡_};
-ghost use mathlib.Core.Bool.{Bool, true, false, cond};
+ghost use mathlib.Core.Bool.{true, false, cond};
 ghost use Prim.Native.Nat.{ℕ, _<_};
 ghost use lib.ListN.{length, getD, set, replicate};
 ghost use Rattle.std.specs.Orderings.{Decides};
