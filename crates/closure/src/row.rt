@@ -21,6 +21,17 @@ impl<const N: usize> Row<N> {
         Row { marks: [false; N] }
     }
 
+    // The set of one atom; past the row's end it is empty.
+    pub fn one(atom: usize) -> Row<N>
+        ensures { λ r. ⌜ r .marks ≡ set (replicate N false) atom true ⌝ }
+    {
+        let mut row = Row::clear();
+        if atom < N {
+            row.marks[atom] = true;
+        }
+        row
+    }
+
     // Is the atom in the set? No atom past the row's end is.
     pub fn has(&self, atom: u16) -> bool
         ensures { λ r. ⌜ r ≡ getD (now (self .entry) .marks) atom false ⌝ }

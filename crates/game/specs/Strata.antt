@@ -4,7 +4,7 @@ use mathlib.Core.Bool.{true}
 use mathlib.Core.List.{List, _++_}
 use Prim.Native.Nat.{ℕ, _≤_, _<_}
 use lib.ListN.{length}
-use Rattle.std.specs.shelf.Lists.{All, Has}
+use Rattle.std.specs.shelf.Lists.{All, At, Has}
 use Rattle.game.specs.Sets.{Row, In}
 use Rattle.game.specs.Rules.{Rule, atom, is-head, headed}
 use Rattle.game.specs.AnswerSets.{AnswerSet}
@@ -24,6 +24,12 @@ Breaks rules r = (a : ℕ) × (b : ℕ) × (r .head ≡ atom a) × Has (r .negat
 
 abbrev pub Stratified : List Rule → Type 0
 Stratified rules = (r : Rule) → Has rules r → Breaks rules r → ⊥
+
+-- the rule at place i is the first that breaks them
+pub record First-break (rules : List Rule) (i : ℕ) : Type 0 where
+  pub inside : i < length rules
+  pub breaks : At (Breaks rules) rules i
+  pub first : (j : ℕ) → j < i → At (λ r. Breaks rules r → ⊥) rules j
 
 -- a head stands no lower than the plain atoms of its body, and above the negated ones
 pub record Leveled (rules : List Rule) (level : ℕ → ℕ) : Type 0 where

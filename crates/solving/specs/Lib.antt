@@ -1,3 +1,4 @@
 pub mod Tests
 pub mod Levels
 pub mod Following
+pub mod Reached

@@ -1,6 +1,7 @@
 // Decides answer sets: the reduct and the dependency edges as growing steps, the test, strata, levels and judgement.
 pub mod answer;
 mod constraints;
+mod edges;
 mod literals;
 mod picking;
 mod reduct;
