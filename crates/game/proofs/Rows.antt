@@ -1,13 +1,13 @@
 -- Rows as sets: their members, unions, and the row of a test.
 use mathlib.Core.Path.{_≡_, refl, sym, _∙_, ap, ap₂}
-use mathlib.Core.Bool.{Bool, true, false, or-comm}
+use mathlib.Core.Bool.{Bool, true, false, _&&_, or-comm}
 use mathlib.Core.List.{List, [], _∷_}
 use mathlib.Core.Logic.{_⊎_, inl, inr}
 use Prim.Native.Nat.{ℕ, zero, suc, _<_}
 use native.Mathlib.Omega.{arith}
 use lib.ListN.{length, getD, replicate, length-replicate}
 use Rattle.std.proofs.shelf.Lists.{ext-getD}
-use Rattle.std.proofs.shelf.Tests.{false≢true, or-cases, or-left, or-right}
+use Rattle.std.proofs.shelf.Tests.{false≢true, and-from, and-parts, or-cases, or-left, or-right}
 use Rattle.std.proofs.shelf.Ways.{same-from-decides}
 use Rattle.game.specs.Sets.{Row, In, Within, union}
 
@@ -81,3 +81,12 @@ pub row-passes : (n : ℕ) (f : ℕ → Bool) (a : ℕ) → In a (row n f) → f
 row-passes zero f a h = absurd (false≢true h)
 row-passes (suc n) f zero h = h
 row-passes (suc n) f (suc a) h = row-passes n (λ b. f (suc b)) a h
+
+abbrev pub both : Row → Row → Row
+both s t = row (length s) (λ a. getD s a false && getD t a false)
+
+pub in-both : (s t : Row) (a : ℕ) → In a s → In a t → In a (both s t)
+in-both s t a h k = in-row (length s) _ a (in-below s a h) (and-from (getD s a false) (getD t a false) h k)
+
+pub both-parts : (s t : Row) (a : ℕ) → In a (both s t) → In a s × In a t
+both-parts s t a h = and-parts (getD s a false) (getD t a false) (row-passes (length s) (λ b. getD s b false && getD t b false) a h)
