@@ -2,7 +2,8 @@
 use mathlib.Core.Path.{_≡_, refl, ap, subst}
 use mathlib.Core.Bool.{Bool, true, false}
 use mathlib.Core.List.{List, [], _∷_}
-use mathlib.Core.Logic.{Dec·and, Dec·not, Dec·not-not}
+use mathlib.Core.Logic.{Dec·and, Dec·not, Dec·not-not, ∥∥₁-elim}
+use mathlib.Core.HLevel.{⊥-prop}
 use Prim.Native.Nat.{ℕ, zero, suc}
 use native.Mathlib.Omega.{arith}
 use native.Mathlib.Decide.{map-dec, ℕ-discrete}
@@ -126,3 +127,10 @@ dec-answer rules given i =
 pub dec-some-answer : (rules : List Rule) (given : Row) (P : Row → Type 0) → ((i : Row) → Dec (P i)) → Dec ((i : Row) × AnswerSet rules given i × P i)
 dec-some-answer rules given P each =
     map-dec (λ h. (h .0, h .2 .0, h .2 .1)) (λ h. (h .0, h .1 .width, (h .1, h .2))) (dec-some (length given) (λ i. AnswerSet rules given i × P i) (λ i. Dec·and (dec-answer rules given i) (each i)))
+
+pub dec-answered : (rules : List Rule) (given : Row) → Dec ∥ ((i : Row) × AnswerSet rules given i) ∥₁
+dec-answered rules given = go (dec-some-answer rules given (λ _. Unit {0}) (λ _. yes tt))
+  where
+    go : Dec ((i : Row) × AnswerSet rules given i × Unit {0}) → Dec ∥ ((i : Row) × AnswerSet rules given i) ∥₁
+    go (yes h) = yes ∣ (h .0, h .1) ∣₁
+    go (no f) = no (λ e. ∥∥₁-elim e ⊥-prop (λ h. f (h .0, h .1, tt)))

@@ -46,18 +46,22 @@ module _ {n : ℕ} {base rules : List Rule} {m : Row} (h : Fixable n base rules 
       where
         y : Row
         y = both x t
+
         width : length y ≡ n
         width = length-row (length x) _ ∙ stable .width
+
         in-x : (r : Rule) → Plain-in y r → Plain-in x r
         in-x r = all-weaker _ _ (λ b j. both-parts x t b j .0) (r .plain)
+
         in-t : (r : Rule) → Plain-in y r → Plain-in t r
         in-t r = all-weaker _ _ (λ b j. both-parts x t b j .1) (r .plain)
+
         shared : Fits base rules m x y
         shared = record {
           obeys = λ r b k e kept p. in-both x t b (fits .obeys r b k e kept (in-x r p)) (obeys r b k e kept (in-t r p));
           lets = λ r k e kept p. fits .lets r k e kept (in-x r p);
           around = λ b j. in-both x t b (fits .around b j) (around b j);
-          only = λ b e j. fits .only b e (both-parts x t b j .0)
+          only = λ b e j. fits .only b e (both-parts x t b j .0);
         }
 
     -- so a member of x is fixed or a head, since what is fixed and the heads obey the rules
@@ -66,8 +70,10 @@ module _ {n : ℕ} {base rules : List Rule} {m : Row} (h : Fixable n base rules 
       where
         test : ℕ → Bool
         test b = getD m b false || is-head rules b
+
         around : Within m (row n test)
         around b j = in-row n test b (let l = in-below m b j in let w = h .width in omega arith) (or-left (getD m b false) (is-head rules b) j)
+
         obeys : Obeys rules x (row n test)
         obeys r b k e kept p = let head = head-of rules r b k e in in-row n test b (h .below b (head-stands rules b head)) (or-right (getD m b false) (is-head rules b) head)
 
@@ -95,6 +101,7 @@ module _ {n : ℕ} {base rules : List Rule} {m : Row} (h : Fixable n base rules 
               | inl j ↦ union-right own m a j
               | inr e ↦ union-left own m a (in-row n own-test a (let l = in-below x a k in let w = stable .width in omega arith) (and-from (getD x a false) (is-head rules a) k e))
             ]
+
         back : Within (union own m) x
         back a k = elim (union-cases own m a k) [ inl j ↦ own-parts a j .0 | inr j ↦ fits .around a j ]
 
@@ -104,7 +111,7 @@ module _ {n : ℕ} {base rules : List Rule} {m : Row} (h : Fixable n base rules 
           width = own-width;
           heads = λ a k. own-parts a k .1;
           smallest = subst (λ y. Smallest rules m y y) own-union (record { around = fits .around; obeys = fits .obeys; least = λ t _. least t });
-          allowed = subst (Allowed rules) own-union (fits .lets)
+          allowed = subst (Allowed rules) own-union (fits .lets);
         }
 
   module _ (i : Row) (answer : AnswerSet rules m i) where
@@ -123,7 +130,7 @@ module _ {n : ℕ} {base rules : List Rule} {m : Row} (h : Fixable n base rules 
             | inr j ↦ stands-right a rules (fixed n base m) (member-stands base m n a (let l = in-below m a j in let w = h .width in omega arith) j)
           ];
           model = model-fits (union i m) (union i m) width .1 answer-fits;
-          minimal = λ y same _ model. let f = model-fits (union i m) y same .0 model in answer .smallest .least y (same ∙ sym width) (f .around) (f .obeys)
+          minimal = λ y same _ model. let f = model-fits (union i m) y same .0 model in answer .smallest .least y (same ∙ sym width) (f .around) (f .obeys);
         }
       where
         width : length (union i m) ≡ n

@@ -15,7 +15,7 @@ use Rattle.game.specs.Game.{Texts, nothing, Plan, Reply, Holds, Beats, Wins, C
 use Rattle.game.specs.Published.{Stable, fixed, fixing, second, check, Has-stable, Apart, Coherent-as-published, Coherence-is-as-published}
 use Rattle.game.proofs.Rows.{in-none, union-none, union-comm}
 use Rattle.game.proofs.Heads.{head-stands, stands-cases, stands-left, stands-right}
-use Rattle.game.proofs.Decided.{dec-some-answer}
+use Rattle.game.proofs.Decided.{dec-answered, dec-some-answer}
 use Rattle.game.proofs.Fixing.{fixed-stands}
 use Rattle.game.proofs.Handed.{Fixable, stable-is-answer}
 
@@ -40,12 +40,32 @@ module _ (n : ℕ) (rules : List Rule) (below : (a : ℕ) → stands a rules ≡
     where
       width : (i : Row) → AnswerSet rules (replicate n false) i → length i ≡ n
       width i answer = answer .width ∙ length-replicate n false
+
       to : Stable n rules x → AnswerSet rules (replicate n false) x
       to stable =
           let (i, answer, e) = stable-is-answer none-fixable x .0 (subst (λ p. Stable n p x) (sym alone) stable) in
           subst (AnswerSet rules (replicate n false)) (sym (e ∙ union-none n i (width i answer))) answer
+
       back : AnswerSet rules (replicate n false) x → Stable n rules x
       back answer = subst (λ p. Stable n p x) alone (stable-is-answer none-fixable x .1 (x, answer, sym (union-none n x (width x answer))))
+
+-- the same texts on another side
+abbrev on : Side → Texts → Texts
+on side t = record { side = side; plans = t .plans; faults = t .faults; site = t .site }
+
+abbrev Unbeaten : Side → Texts → Row → Type 0
+Unbeaten side t m = (r : Row) → Beats (on side t) m r → ⊥
+
+-- the site text holds for some reply
+abbrev Held : Texts → Row → Type 0
+Held t m = (r : Row) × Reply t m r × Holds t m r
+
+-- the check has a stable set for each stable set of the second program; for one of them
+abbrev Always : Texts → Row → Type 0
+Always t m = (x : Row) → Stable 96 (second t m) x → Has-stable (check t m x)
+
+abbrev Once : Texts → Row → Type 0
+Once t m = (x : Row) × Stable 96 (second t m) x × Has-stable (check t m x)
 
 module _ (t : Texts) (h : Apart t) where
   plan-is-stable : (m : Row) → Plan t m ↔ Stable 96 (t .plans) m
@@ -73,10 +93,50 @@ module _ (t : Texts) (h : Apart t) where
       joined-stable : Stable 96 (second t m) (union r m)
       joined-stable = reply-is-stable (union r m) .1 (r, reply, refl)
 
+      check-is-stable : (y : Row) → Stable 96 (check t m (union r m)) y ↔ ((s : Row) × AnswerSet (t .site) (union r m) s × (y ≡ union s (union r m)))
+      check-is-stable = stable-is-answer (fix-reply (union r m) joined-stable)
+
       holds-is-stable : Holds t m r ↔ Has-stable (check t m (union r m))
-      holds-is-stable = Iff·trunc (to, back)
+      holds-is-stable = subst (λ given. ∥ ((s : Row) × AnswerSet (t .site) given s) ∥₁ ↔ Has-stable (check t m (union r m))) (union-comm r m) (Iff·trunc (to, back))
         where
-          to : (s : Row) × AnswerSet (t .site) (union m r) s → (y : Row) × Stable 96 (check t m (union r m)) y
-          to (s, answer) = (union s (union r m), stable-is-answer (fix-reply (union r m) joined-stable) _ .1 (s, rw union-comm at answer, refl))
-          back : (y : Row) × Stable 96 (check t m (union r m)) y → (s : Row) × AnswerSet (t .site) (union m r) s
-          back (y, stable) = let (s, answer, _) = stable-is-answer (fix-reply (union r m) joined-stable) y .0 stable in (s, rw union-comm at answer)
+          to : (s : Row) × AnswerSet (t .site) (union r m) s → (y : Row) × Stable 96 (check t m (union r m)) y
+          to (s, answer) = (union s (union r m), check-is-stable _ .1 (s, answer, refl))
+
+          back : (y : Row) × Stable 96 (check t m (union r m)) y → (s : Row) × AnswerSet (t .site) (union r m) s
+          back (y, stable) = let (s, answer, _) = check-is-stable y .0 stable in (s, answer)
+
+    held-always : Unbeaten some-plan t m ↔ Always t m
+    held-always = (to, λ f r (reply, not-held). not-held (holds-is-stable r reply .1 (f (union r m) (joined-stable r reply))))
+      where
+        to : Unbeaten some-plan t m → Always t m
+        to f x stable =
+            let (r, reply, e) = reply-is-stable x .0 stable in
+            let held : Holds t m r = Dec·not-not (dec-answered (t .site) (union m r)) .0 (λ not-held. f r (reply, not-held)) in
+            subst (λ y. Has-stable (check t m y)) (sym e) (holds-is-stable r reply .0 held)
+
+    held-once : Held t m ↔ Once t m
+    held-once = (λ (r, reply, held). (union r m, joined-stable r reply, holds-is-stable r reply .0 held), back)
+      where
+        back : Once t m → Held t m
+        back (x, stable, has) = let (r, reply, e) = reply-is-stable x .0 stable in (r, reply, holds-is-stable r reply .1 (subst (λ y. Has-stable (check t m y)) e has))
+
+    -- there are finitely many replies to try
+    beaten-once : (Unbeaten every-plan t m → ⊥) ↔ ∥ Once t m ∥₁
+    beaten-once = (λ f. ∣ held-once .0 (Dec·not-not tried .0 (λ none. f (λ r (reply, held). none (r, reply, held)))) ∣₁, λ some f. ∥∥₁-elim some ⊥-prop (λ x. let (r, reply, held) = held-once .1 x in f r (reply, held)))
+      where
+        tried : Dec (Held t m)
+        tried = dec-some-answer (t .faults) m (Holds t m) (λ r. dec-answered (t .site) (union m r))
+
+  on-side : (side : Side) → Coherent (on side t) ↔ Coherent-as-published (on side t)
+  on-side some-plan =
+      Iff·trunc (
+        λ (m, (plan, f)). (m, plan-is-stable m .0 plan, held-always m plan .0 f),
+        λ (m, stable, f). let plan = plan-is-stable m .1 stable in (m, (plan, held-always m plan .1 f)),
+      )
+  on-side every-plan = (
+    λ f m stable. let plan = plan-is-stable m .1 stable in beaten-once m plan .0 (λ unbeaten. f m (plan, unbeaten)),
+    λ f m (plan, unbeaten). beaten-once m plan .1 (f m (plan-is-stable m .0 plan)) unbeaten,
+  )
+
+pub coherence-is-as-published : Coherence-is-as-published
+coherence-is-as-published t h = on-side t h (t .side)

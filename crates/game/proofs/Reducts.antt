@@ -49,6 +49,7 @@ module _ (x s : Row) where
     where
       of : All (Meets x s) rules → (r : Rule) → Has rules r → Meets x s r
       of = all-each (Meets x s) rules .0
+
       to : Obeys rules x s × Lets rules x s → (r : Rule) → Has rules r → Kept x r → Plain-in s r → (h : Head) → r .head ≡ h → Head-in s h
       to f r k kept p none e = f .1 r k e kept p
       to f r k kept p (atom a) e = f .0 r a k e kept p
