@@ -1,22 +1,21 @@
 -- A set that is handed on by fixing it is a set of given atoms: the stable sets are the answer sets, joined with it.
-use mathlib.Core.Path.{_≡_, refl, sym, _∙_, subst}
+use mathlib.Core.Path.{_≡_, sym, _∙_, subst}
 use mathlib.Core.Bool.{Bool, true, false, _||_, _&&_}
 use mathlib.Core.List.{List, _++_}
 use mathlib.Core.Logic.{_⊎_, inl, inr, _↔_, Iff·trans, Iff·and}
 use Prim.Native.Nat.{ℕ, _<_}
-use native.Mathlib.Omega.{arith}
 use lib.ListN.{length, getD}
-use Rattle.std.specs.shelf.Lists.{All, Has}
 use Rattle.std.proofs.shelf.Elements.{all-weaker}
 use Rattle.std.proofs.shelf.Tests.{and-parts, and-from, or-cases, or-left, or-right}
 use Rattle.game.specs.Sets.{Row, In, Within, union}
-use Rattle.game.specs.Rules.{Rule, atom, stands, is-head, Plain-in, Kept, Obeys}
+use Rattle.game.specs.Rules.{Rule, stands, is-head, Plain-in, Obeys}
 use Rattle.game.specs.AnswerSets.{AnswerSet, Smallest, Allowed}
 use Rattle.game.specs.Published.{reduct, Model, Stable, fixed}
-use Rattle.game.proofs.Rows.{in-below, same-rows, union-cases, union-left, union-right, length-union, row, length-row, in-row, row-passes, both, in-both, both-parts}
+use Rattle.game.proofs.Each.{all-parts}
+use Rattle.game.proofs.Rows.{in-width, same-rows, union-cases, union-left, union-right, length-union, row, length-row, in-row, row-passes, both, in-both, both-parts}
 use Rattle.game.proofs.Heads.{head-of, head-stands, stands-left, stands-right}
 use Rattle.game.proofs.Reducts.{Meets, Lets, met-parts, reduct-model}
-use Rattle.game.proofs.Fixing.{all-parts, fixed-met, member-stands}
+use Rattle.game.proofs.Fixing.{fixed-met, member-stands}
 
 -- m, a set of atoms of base, can be fixed for the rules: their atoms are below n, and no head stands in base
 pub record Fixable (n : ℕ) (base rules : List Rule) (m : Row) : Type 0 where
@@ -34,7 +33,10 @@ record Fits (base rules : List Rule) (m x s : Row) : Type 0 where
 
 module _ {n : ℕ} {base rules : List Rule} {m : Row} (h : Fixable n base rules m) where
   model-fits : (x s : Row) → length s ≡ n → Model (reduct x (rules ++ fixed n base m)) s ↔ Fits base rules m x s
-  model-fits x s same = Iff·trans (reduct-model x s (rules ++ fixed n base m)) (Iff·trans (all-parts (Meets x s) rules (fixed n base m)) (Iff·trans (Iff·and (met-parts x s rules) (fixed-met base m n x s (h .width) same)) (λ f. record { obeys = f .0 .0; lets = f .0 .1; around = f .1 .0; only = f .1 .1 }, λ f. ((f .obeys, f .lets), (f .around, f .only)))))
+  model-fits x s same =
+      let met = Iff·trans (reduct-model x s (rules ++ fixed n base m)) (all-parts (Meets x s) rules (fixed n base m)) in
+      let parts = Iff·and (met-parts x s rules) (fixed-met base m n x s (h .width) same) in
+      Iff·trans met (Iff·trans parts (λ f. record { obeys = f .0 .0; lets = f .0 .1; around = f .1 .0; only = f .1 .1 }, λ f. ((f .obeys, f .lets), (f .around, f .only))))
 
   module _ (x : Row) (stable : Stable n (rules ++ fixed n base m) x) where
     fits : Fits base rules m x x
@@ -72,35 +74,26 @@ module _ {n : ℕ} {base rules : List Rule} {m : Row} (h : Fixable n base rules 
         test b = getD m b false || is-head rules b
 
         around : Within m (row n test)
-        around b j = in-row n test b (let l = in-below m b j in let w = h .width in omega arith) (or-left (getD m b false) (is-head rules b) j)
+        around b j = in-row n test b (in-width m (h .width) b j) (or-left (getD m b false) (is-head rules b) j)
 
         obeys : Obeys rules x (row n test)
         obeys r b k e kept p = let head = head-of rules r b k e in in-row n test b (h .below b (head-stands rules b head)) (or-right (getD m b false) (is-head rules b) head)
 
-    own-test : ℕ → Bool
-    own-test a = getD x a false && is-head rules a
-
-    own : Row
-    own = row n own-test
+    -- the heads among its members
+    abbrev own : Row
+    own = row n (λ a. getD x a false && is-head rules a)
 
     own-parts : (a : ℕ) → In a own → In a x × (is-head rules a ≡ true)
-    unfolding own own-test
-    own-parts a k = and-parts (getD x a false) (is-head rules a) (row-passes n own-test a k)
+    own-parts a k = and-parts (getD x a false) (is-head rules a) (row-passes n _ a k)
 
     own-width : length own ≡ length m
-    unfolding own
-    own-width = length-row n own-test ∙ sym (h .width)
+    own-width = length-row n _ ∙ sym (h .width)
 
     own-union : x ≡ union own m
-    unfolding own own-test
     own-union = same-rows x (union own m) (stable .width ∙ sym (h .width) ∙ sym (length-union own m own-width)) to back
       where
         to : Within x (union own m)
-        to a k =
-            elim (fixed-or-head a k) [
-              | inl j ↦ union-right own m a j
-              | inr e ↦ union-left own m a (in-row n own-test a (let l = in-below x a k in let w = stable .width in omega arith) (and-from (getD x a false) (is-head rules a) k e))
-            ]
+        to a k = elim (fixed-or-head a k) [ inl j ↦ union-right own m a j | inr e ↦ union-left own m a (in-row n _ a (in-width x (stable .width) a k) (and-from (getD x a false) (is-head rules a) k e)) ]
 
         back : Within (union own m) x
         back a k = elim (union-cases own m a k) [ inl j ↦ own-parts a j .0 | inr j ↦ fits .around a j ]
@@ -127,7 +120,7 @@ module _ {n : ℕ} {base rules : List Rule} {m : Row} (h : Fixable n base rules 
           width = width;
           inside = λ a k. elim (union-cases i m a k) [
             | inl j ↦ stands-left a rules (fixed n base m) (head-stands rules a (answer .heads a j))
-            | inr j ↦ stands-right a rules (fixed n base m) (member-stands base m n a (let l = in-below m a j in let w = h .width in omega arith) j)
+            | inr j ↦ stands-right a rules (fixed n base m) (member-stands base m n a (in-width m (h .width) a j) j)
           ];
           model = model-fits (union i m) (union i m) width .1 answer-fits;
           minimal = λ y same _ model. let f = model-fits (union i m) y same .0 model in answer .smallest .least y (same ∙ sym width) (f .around) (f .obeys);

@@ -1,22 +1,13 @@
 -- Where an atom stands in a list of rules, and of which it is the head.
-use mathlib.Core.Path.{_≡_, refl, sym, subst}
-use mathlib.Core.Bool.{Bool, true, false, _||_, or-assoc}
+use mathlib.Core.Path.{_≡_, refl}
+use mathlib.Core.Bool.{true, _||_}
 use mathlib.Core.List.{List, [], _∷_, _++_}
 use mathlib.Core.Logic.{_⊎_, inl, inr}
 use Prim.Native.Nat.{ℕ}
 use Rattle.std.specs.shelf.Lists.{Has}
 use Rattle.std.proofs.shelf.Tests.{false≢true, or-cases, or-left, or-right, eq-eqb}
-use Rattle.std.proofs.shelf.Ways.{decides-by-or}
-use Rattle.game.specs.Rules.{Head, none, atom, Rule, heads, in-rule, stands, is-head}
-
--- a test that some element passes
-module _ {X : Type 0} (p : X → Bool) (f : List X → Bool) (empty : f [] ≡ false) (more : (x : X) (xs : List X) → f (x ∷ xs) ≡ (p x || f xs)) where
-  some-append : (xs ys : List X) → f (xs ++ ys) ≡ (f xs || f ys)
-  some-append [] ys = rw empty
-  some-append (x ∷ xs) ys = let rest = some-append xs ys in simp (more, rest, or-assoc)
-
-  some-has : (xs : List X) (x : X) → Has xs x → p x ≡ true → f xs ≡ true
-  some-has xs x (k, below, at) h = decides-by-or p (λ y. p y ≡ true) f (λ y. (λ e. e, λ e. e)) empty more xs .1 (k, below, λ d. rw (at d) h)
+use Rattle.game.specs.Rules.{atom, Rule, heads, in-rule, stands, is-head}
+use Rattle.game.proofs.Each.{some-append, some-has}
 
 pub stands-append : (a : ℕ) (rs qs : List Rule) → stands a (rs ++ qs) ≡ (stands a rs || stands a qs)
 stands-append a = some-append (in-rule a) (stands a) refl (λ _ _. refl)

@@ -1,53 +1,22 @@
 -- Coherence is as published.
-use mathlib.Core.Path.{_≡_, refl, sym, _∙_, ap, subst}
-use mathlib.Core.Bool.{true, false}
-use mathlib.Core.List.{List, [], _++_, append-nil}
-use mathlib.Core.Logic.{inl, inr, _↔_, Iff·trans, Iff·symm, Iff·trunc, Dec·not-not, ∥∥₁-map, ∥∥₁-elim}
+use mathlib.Core.Path.{_≡_, refl, sym, subst}
+use mathlib.Core.Bool.{true}
+use mathlib.Core.List.{_++_}
+use mathlib.Core.Logic.{inl, inr, _↔_, Iff·symm, Iff·trunc, Dec·not-not, ∥∥₁-elim}
 use mathlib.Core.HLevel.{⊥-prop}
-use Prim.Native.Nat.{ℕ, zero, suc, _<_}
-use lib.ListN.{length, getD, replicate, length-replicate}
-use Rattle.std.proofs.shelf.Tests.{false≢true, cases-bool}
-use Rattle.game.specs.Sets.{Row, In, union}
-use Rattle.game.specs.Rules.{Rule, stands}
+use Prim.Native.Nat.{ℕ}
+use Rattle.game.specs.Sets.{Row, union}
+use Rattle.game.specs.Rules.{stands}
 use Rattle.game.specs.Sides.{Side, some-plan, every-plan}
 use Rattle.game.specs.AnswerSets.{AnswerSet}
-use Rattle.game.specs.Game.{Texts, nothing, Plan, Reply, Holds, Beats, Wins, Coherent}
-use Rattle.game.specs.Published.{Stable, fixed, fixing, second, check, Has-stable, Apart, Coherent-as-published, Coherence-is-as-published}
-use Rattle.game.proofs.Rows.{in-none, union-none, union-comm}
+use Rattle.game.specs.Game.{Texts, Plan, Reply, Holds, Beats, Coherent}
+use Rattle.game.specs.Published.{Stable, fixed, second, check, Has-stable, Apart, Coherent-as-published, Coherence-is-as-published}
+use Rattle.game.proofs.Rows.{union-comm}
 use Rattle.game.proofs.Heads.{head-stands, stands-cases, stands-left, stands-right}
 use Rattle.game.proofs.Decided.{dec-answered, dec-some-answer}
 use Rattle.game.proofs.Fixing.{fixed-stands}
 use Rattle.game.proofs.Handed.{Fixable, stable-is-answer}
-
-none-out : (n a : ℕ) → getD (replicate n false) a false ≡ false
-none-out n a = elim (cases-bool (getD (replicate n false) a false)) [ inl k ↦ absurd (in-none n a k) | inr k ↦ k ]
-
--- with nothing to fix
-fixed-none : (n k : ℕ) → fixed k [] (replicate n false) ≡ []
-fixed-none n zero = refl
-fixed-none n (suc k) = let rest = fixed-none n k in let out = none-out n k in rw (rest, out)
-
-module _ (n : ℕ) (rules : List Rule) (below : (a : ℕ) → stands a rules ≡ true → a < n) where
-  none-fixable : Fixable n [] rules (replicate n false)
-  none-fixable = record { width = length-replicate n false; known = λ a k. absurd (in-none n a k); below = below; apart = λ _ _ e. false≢true e }
-
-  -- so a program alone is one for which nothing is fixed
-  alone : rules ++ fixed n [] (replicate n false) ≡ rules
-  alone = rw (fixed-none n n, append-nil)
-
-  pub stable-alone : (x : Row) → Stable n rules x ↔ AnswerSet rules (replicate n false) x
-  stable-alone x = (to, back)
-    where
-      width : (i : Row) → AnswerSet rules (replicate n false) i → length i ≡ n
-      width i answer = answer .width ∙ length-replicate n false
-
-      to : Stable n rules x → AnswerSet rules (replicate n false) x
-      to stable =
-          let (i, answer, e) = stable-is-answer none-fixable x .0 (subst (λ p. Stable n p x) (sym alone) stable) in
-          subst (AnswerSet rules (replicate n false)) (sym (e ∙ union-none n i (width i answer))) answer
-
-      back : AnswerSet rules (replicate n false) x → Stable n rules x
-      back answer = subst (λ p. Stable n p x) alone (stable-is-answer none-fixable x .1 (x, answer, sym (union-none n x (width x answer))))
+use Rattle.game.proofs.Alone.{stable-alone}
 
 -- the same texts on another side
 abbrev on : Side → Texts → Texts
@@ -122,10 +91,13 @@ module _ (t : Texts) (h : Apart t) where
 
     -- there are finitely many replies to try
     beaten-once : (Unbeaten every-plan t m → ⊥) ↔ ∥ Once t m ∥₁
-    beaten-once = (λ f. ∣ held-once .0 (Dec·not-not tried .0 (λ none. f (λ r (reply, held). none (r, reply, held)))) ∣₁, λ some f. ∥∥₁-elim some ⊥-prop (λ x. let (r, reply, held) = held-once .1 x in f r (reply, held)))
+    beaten-once = (to, λ once f. ∥∥₁-elim once ⊥-prop (λ x. let (r, reply, held) = held-once .1 x in f r (reply, held)))
       where
         tried : Dec (Held t m)
         tried = dec-some-answer (t .faults) m (Holds t m) (λ r. dec-answered (t .site) (union m r))
+
+        to : (Unbeaten every-plan t m → ⊥) → ∥ Once t m ∥₁
+        to f = ∣ held-once .0 (Dec·not-not tried .0 (λ none. f (λ r (reply, held). none (r, reply, held)))) ∣₁
 
   on-side : (side : Side) → Coherent (on side t) ↔ Coherent-as-published (on side t)
   on-side some-plan =

@@ -1,20 +1,16 @@
 -- The models of a reduct, read off the rules themselves.
-use mathlib.Core.Path.{_≡_, refl, sym, subst}
+use mathlib.Core.Path.{_≡_, refl, subst}
 use mathlib.Core.Bool.{Bool, true, false, cond}
 use mathlib.Core.List.{List, [], _∷_}
 use mathlib.Core.Logic.{_↔_, Iff·symm, Iff·trans, inl, inr}
 use Prim.Native.Nat.{ℕ}
 use lib.ListN.{getD}
-use Rattle.std.specs.Orderings.{Decides}
 use Rattle.std.specs.shelf.Lists.{All, Has}
-use Rattle.std.proofs.shelf.Elements.{all-has, all-weaker, all-has-itself}
 use Rattle.std.proofs.shelf.Tests.{false≢true, both-ways, or-cases, or-parts}
 use Rattle.game.specs.Sets.{Row, In}
 use Rattle.game.specs.Rules.{Head, none, atom, Rule, Plain-in, Kept, Obeys}
 use Rattle.game.specs.Published.{any-in, reduct, Head-in, Model}
-
-pub all-each : {X : Type 0} (P : X → Type 0) (xs : List X) → All P xs ↔ ((x : X) → Has xs x → P x)
-all-each P xs = (λ h x k. all-has P xs x h k, λ f. all-weaker (Has xs) P f xs (all-has-itself xs))
+use Rattle.game.proofs.Each.{all-each}
 
 -- s meets the rule as the reduct for x has it
 abbrev pub Meets : Row → Row → Rule → Type 0
@@ -40,15 +36,18 @@ module _ (x s : Row) where
   all-met [] = (λ h. h, λ h. h)
   all-met (r ∷ rs) = go (any-in x (r .negated)) (all-met rs) (kept-none x (r .negated)) (some-dropped x (r .negated))
     where
-      go : (b : Bool) → (All True-in (reduct x rs) ↔ All (Meets x s) rs) → (b ≡ false → Kept x r) → (b ≡ true → Kept x r → ⊥) → (All True-in (cond b (reduct x rs) (record { head = r .head; plain = r .plain; negated = [] } ∷ reduct x rs)) ↔ Meets x s r × All (Meets x s) rs)
+      bare : Rule
+      bare = record { head = r .head; plain = r .plain; negated = [] }
+
+      go : (b : Bool) → (All True-in (reduct x rs) ↔ All (Meets x s) rs) → (b ≡ false → Kept x r) → (b ≡ true → Kept x r → ⊥) → (All True-in (cond b (reduct x rs) (bare ∷ reduct x rs)) ↔ All (Meets x s) (r ∷ rs))
       go true rest f g = (λ h. (λ k. absurd (g refl k), rest .0 h), λ h. rest .1 (h .1))
       go false rest f g = (λ h. (λ k p. h .0 p tt, rest .0 (h .1)), λ h. (λ p _. h .0 (f refl) p, rest .1 (h .1)))
 
   pub met-parts : (rules : List Rule) → All (Meets x s) rules ↔ Obeys rules x s × Lets rules x s
-  met-parts rules = (λ h. (λ r a k e kept p. subst (Head-in s) e (of h r k kept p), λ r k e kept p. subst (Head-in s) e (of h r k kept p)), λ h. all-each (Meets x s) rules .1 (λ r k kept p. to h r k kept p (r .head) refl))
+  met-parts rules = (λ h. (λ r a k e kept p. subst (Head-in s) e (each .0 h r k kept p), λ r k e kept p. subst (Head-in s) e (each .0 h r k kept p)), λ h. each .1 (λ r k kept p. to h r k kept p (r .head) refl))
     where
-      of : All (Meets x s) rules → (r : Rule) → Has rules r → Meets x s r
-      of = all-each (Meets x s) rules .0
+      each : All (Meets x s) rules ↔ ((r : Rule) → Has rules r → Meets x s r)
+      each = all-each (Meets x s) rules
 
       to : Obeys rules x s × Lets rules x s → (r : Rule) → Has rules r → Kept x r → Plain-in s r → (h : Head) → r .head ≡ h → Head-in s h
       to f r k kept p none e = f .1 r k e kept p

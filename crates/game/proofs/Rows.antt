@@ -1,13 +1,13 @@
 -- Rows as sets: their members, unions, and the row of a test.
 use mathlib.Core.Path.{_≡_, refl, sym, _∙_, ap, ap₂}
 use mathlib.Core.Bool.{Bool, true, false, _&&_, or-comm}
-use mathlib.Core.List.{List, [], _∷_}
+use mathlib.Core.List.{[], _∷_}
 use mathlib.Core.Logic.{_⊎_, inl, inr}
 use Prim.Native.Nat.{ℕ, zero, suc, _<_}
 use native.Mathlib.Omega.{arith}
 use lib.ListN.{length, getD, replicate, length-replicate}
 use Rattle.std.proofs.shelf.Lists.{ext-getD}
-use Rattle.std.proofs.shelf.Tests.{false≢true, and-from, and-parts, or-cases, or-left, or-right}
+use Rattle.std.proofs.shelf.Tests.{false≢true, and-from, and-parts, or-cases, or-left}
 use Rattle.std.proofs.shelf.Ways.{same-from-decides}
 use Rattle.game.specs.Sets.{Row, In, Within, union}
 
@@ -15,6 +15,9 @@ pub in-below : (s : Row) (a : ℕ) → In a s → a < length s
 in-below [] a h = absurd (false≢true h)
 in-below (x ∷ s) zero h = omega arith
 in-below (x ∷ s) (suc a) h = let k = in-below s a h in omega arith
+
+pub in-width : {n : ℕ} (s : Row) → length s ≡ n → (a : ℕ) → In a s → a < n
+in-width s width a h = rw width at (in-below s a h)
 
 -- rows of one width with the same members are equal
 pub same-rows : (s t : Row) → length s ≡ length t → Within s t → Within t s → s ≡ t
