@@ -1,0 +1,10 @@
+pub mod Each
+pub mod Rows
+pub mod Finite
+pub mod Decided
+pub mod Heads
+pub mod Reducts
+pub mod Fixing
+pub mod Handed
+pub mod Alone
+pub mod Published
