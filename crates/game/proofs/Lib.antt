@@ -8,3 +8,10 @@ pub mod Fixing
 pub mod Handed
 pub mod Alone
 pub mod Published
+pub mod StrataLists
+pub mod StrataRows
+pub mod Deriving
+pub mod StrataHeaded
+pub mod StrataLevels
+pub mod StrataOnce
+pub mod StrataSettled
