@@ -1,3 +1,13 @@
+pub mod Each
+pub mod Rows
+pub mod Finite
+pub mod Decided
+pub mod Heads
+pub mod Reducts
+pub mod Fixing
+pub mod Handed
+pub mod Alone
+pub mod Published
 pub mod StrataLists
 pub mod StrataRows
 pub mod Deriving
