@@ -1,3 +1,4 @@
 pub mod Atoms
 pub mod Marking
 pub mod Testing
+pub mod Reaching
