@@ -21,11 +21,11 @@ impl<const N: usize> Row<N> {
         Row { marks: [false; N] }
     }
 
-    // The set of one atom; past the row's end it is empty.
-    pub fn one(atom: usize) -> Row<N>
-        ensures { λ r. ⌜ r .marks ≡ set (replicate N false) atom true ⌝ }
+    // The set with the atom added; past the row's end nothing is.
+    pub fn with(&self, atom: usize) -> Row<N>
+        ensures { λ r. ⌜ r .marks ≡ set (now (self .entry) .marks) atom true ⌝ }
     {
-        let mut row = Row::clear();
+        let mut row = *self;
         if atom < N {
             row.marks[atom] = true;
         }

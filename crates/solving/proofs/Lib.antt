@@ -2,3 +2,4 @@ pub mod Atoms
 pub mod Marking
 pub mod Testing
 pub mod Reaching
+pub mod Breaking

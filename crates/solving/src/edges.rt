@@ -1,6 +1,8 @@
 // The dependency edges as a growing step: from each body atom, plain or negated, to its rule's head.
 ghost use mathlib.Core.Path.{_≡_};
-ghost use Prim.Native.Nat.{ℕ, _<_};
+ghost use mathlib.Core.Bool.{false};
+ghost use Prim.Native.Nat.{_<_};
+ghost use lib.ListN.{replicate};
 ghost use Rattle.closure.specs.Steps.{Grows};
 ghost use Rattle.game.proofs.Deriving.{Heads-below};
 ghost use Rattle.programs.specs.Model.{models};
@@ -38,10 +40,10 @@ pub(crate) impl<'a, const N: usize> Step<N> for Edges<'a> as EdgesStep {
     }
 }
 
-// The atoms that can be reached from the atom in zero or more edges.
-pub(crate) fn reach<const N: usize>(rules: &[Rule], atom: usize) -> Row<N>
-    requires { ⌜ Heads-below (models (now rules)) N ⌝ ∗ ⌜ atom < N ⌝ }
+// The atoms that can be reached from the atom in zero or more edges; `none` is the empty set.
+pub(crate) fn reach<const N: usize>(rules: &[Rule], none: &Row<N>, atom: usize) -> Row<N>
+    requires { ⌜ Heads-below (models (now rules)) N ⌝ ∗ ⌜ atom < N ⌝ ∗ ⌜ now none .marks ≡ replicate N false ⌝ }
     ensures { λ r. ⌜ Reached (models (now (rules .entry))) atom (r .marks) ⌝ }
 {
-    closure(&Edges { rules }, &Row::one(atom))
+    closure(&Edges { rules }, &none.with(atom))
 }

@@ -5,3 +5,4 @@ mod edges;
 mod literals;
 mod picking;
 mod reduct;
+pub mod strata;
