@@ -2,10 +2,13 @@
 use mathlib.Core.Path.{_≡_}
 use mathlib.Core.Bool.{Bool, true, false, _&&_}
 use mathlib.Core.List.{List, [], _∷_}
-use Prim.Native.Nat.{ℕ}
+use Prim.Native.Nat.{ℕ, _+_, _<_}
 use lib.Dec.{leb, ltb}
-use lib.ListN.{getD}
+use lib.ListN.{getD, length}
+use Rattle.game.specs.Sets.{Row}
 use Rattle.game.specs.Rules.{Head, none, atom, Rule}
+use Rattle.closure.specs.Rows.{marked}
+use Rattle.solving.specs.Reached.{Reached}
 
 -- the level of an atom
 abbrev pub level-in : List ℕ → ℕ → ℕ
@@ -27,3 +30,7 @@ rule-leveled levels (atom a) r = none-above levels a (r .plain) && all-beneath l
 abbrev pub leveled : List ℕ → List Rule → Bool
 leveled levels [] = true
 leveled levels (r ∷ rs) = rule-leveled levels (r .head) r && leveled levels rs
+
+-- the level of each of the first k atoms is how many atoms below n it cannot reach
+abbrev pub Ranked : List Rule → ℕ → ℕ → List ℕ → Type 0
+Ranked rules n k levels = (a : ℕ) → a < k → (s : Row) × Reached rules a s × (length s ≡ n) × (level-in levels a + marked s ≡ n)

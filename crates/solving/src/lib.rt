@@ -2,6 +2,7 @@
 pub mod answer;
 mod constraints;
 mod edges;
+pub mod levels;
 mod literals;
 mod picking;
 mod reduct;
