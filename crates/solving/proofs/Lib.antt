@@ -3,3 +3,5 @@ pub mod Marking
 pub mod Testing
 pub mod Reaching
 pub mod Breaking
+pub mod Leveling
+pub mod Judgement

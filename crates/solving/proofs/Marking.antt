@@ -11,7 +11,8 @@ use Rattle.std.proofs.shelf.Lists.{at-drop-more, at-drop-all, getD-set-same, ge
 use Rattle.std.proofs.shelf.Tests.{cases-eq, cases-lt, eq-eqb, ne-eqb}
 use Rattle.game.specs.Sets.{Row}
 use Rattle.game.specs.Rules.{Head, Rule, heads, is-head, none, atom}
-use Rattle.game.specs.Derives.{fires, derives}
+use Rattle.game.specs.Derives.{fires, derives, derives-at}
+use Rattle.solving.specs.Levels.{level-in, head-at}
 use Rattle.closure.specs.Steps.{Marked}
 use Rattle.programs.specs.declared.rule.Rule as code
 use Rattle.programs.specs.Model.{model, models}
@@ -75,9 +76,34 @@ and-true : (x : Bool) → (x && true) ≡ x
 and-true true = refl
 and-true false = refl
 
+and-false : (x : Bool) → (x && false) ≡ false
+and-false true = refl
+and-false false = refl
+
+and-swap : (x y z : Bool) → (x && (y && z)) ≡ (y && (x && z))
+and-swap true y z = refl
+and-swap false y z = sym (and-false y)
+
+and-or : (x y z : Bool) → ((x && y) || (x && z)) ≡ (x && (y || z))
+and-or true y z = refl
+and-or false y z = refl
+
 pub picked-heads : (rules : List Rule) (a : ℕ) → headed-by (λ _. true) rules a ≡ is-head rules a
 picked-heads [] a = refl
 picked-heads (r ∷ rs) a = ap (λ b. b || headed-by (λ _. true) rs a) (and-true (heads a (r .head))) ∙ ap (λ b. heads a (r .head) || b) (picked-heads rs a)
 
 pub clear-mark : (n a : ℕ) → getD (replicate n false) a false ≡ false
 clear-mark n a = ⊎-elim (λ less. getD-replicate n a false false less) (λ past. getD-past (replicate n false) a false (omega (arith, length-replicate n false))) (cases-lt a n)
+
+-- a head of one level that a rule picked by it fires
+level-shift : (levels : List ℕ) (l a : ℕ) (h : Head) (f : Bool) → (heads a h && (head-at levels l h && f)) ≡ (eqb (level-in levels a) l && (heads a h && f))
+level-shift levels l a none f = sym (and-false (eqb (level-in levels a) l))
+level-shift levels l a (atom b) f =
+    ⊎-elim (λ same. ap (λ c. eqb a b && (eqb (level-in levels c) l && f)) (sym same) ∙ and-swap (eqb a b) (eqb (level-in levels a) l) f)
+    (λ other. ap (λ t. t && (eqb (level-in levels b) l && f)) (ne-eqb a b other) ∙ sym (ap (λ t. eqb (level-in levels a) l && (t && f)) (ne-eqb a b other) ∙ and-false (eqb (level-in levels a) l))) (cases-eq a b)
+
+pub picked-level : (rules : List Rule) (levels : List ℕ) (l : ℕ) (x s : Row) (a : ℕ) → headed-by (λ r. head-at levels l (r .head) && fires x s r) rules a ≡ derives-at rules (level-in levels) l x s a
+picked-level [] levels l x s a = sym (and-false (eqb (level-in levels a) l))
+picked-level (r ∷ rs) levels l x s a =
+    ap (λ b. b || headed-by (λ r. head-at levels l (r .head) && fires x s r) rs a) (level-shift levels l a (r .head) (fires x s r))
+    ∙ ap (λ b. (eqb (level-in levels a) l && (heads a (r .head) && fires x s r)) || b) (picked-level rs levels l x s a) ∙ and-or (eqb (level-in levels a) l) (heads a (r .head) && fires x s r) (derives rs x s a)

@@ -9,11 +9,13 @@ use Prim.Native.Nat.{ℕ}
 use Rattle.closure.specs.Steps.{Grows}
 use Rattle.game.specs.Sets.{Row, Within}
 use Rattle.game.specs.Rules.{Rule, heads}
-use Rattle.game.specs.Derives.{derives}
-use Rattle.game.proofs.Deriving.{derives-grows}
+use Rattle.game.specs.Derives.{derives, derives-at}
+use Rattle.game.proofs.Deriving.{derives-grows, derives-at-grows}
 use Rattle.programs.specs.Model.{models}
 use Rattle.solving.specs.declared.reduct.Reduct.{Reduct}
 use Rattle.solving.specs.declared.edges.Edges.{Edges}
+use Rattle.solving.specs.declared.settling.AtLevel.{AtLevel}
+use Rattle.solving.specs.Levels.{level-in}
 use Rattle.solving.specs.Tests.{any-in, headed-by, touches}
 
 abbrev pub reduct-follows : {n : ℕ} → Reduct n → Row → ℕ → Bool
@@ -40,3 +42,9 @@ headed-grows p q more (r ∷ rs) a e =
 
 pub edges-grows : {n : ℕ} → Grows n edges-follows
 edges-grows = record { grows = λ s a b wide wide′ within i. headed-grows (touches a) (touches b) (touches-grows a b within) (models (s .rules .now)) i }
+
+abbrev pub level-follows : {n : ℕ} → AtLevel n → Row → ℕ → Bool
+level-follows s from a = derives-at (models (s .rules .now)) (level-in (s .levels .now)) (s .level) (s .against .now .marks) from a
+
+pub level-grows : {n : ℕ} → Grows n (level-follows {n = n})
+level-grows = record { grows = λ s a b wide wide′ within i. derives-at-grows (models (s .rules .now)) (level-in (s .levels .now)) (s .level) (s .against .now .marks) a b i within }

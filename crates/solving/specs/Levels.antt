@@ -3,7 +3,7 @@ use mathlib.Core.Path.{_≡_}
 use mathlib.Core.Bool.{Bool, true, false, _&&_}
 use mathlib.Core.List.{List, [], _∷_}
 use Prim.Native.Nat.{ℕ, _+_, _<_}
-use lib.Dec.{leb, ltb}
+use lib.Dec.{eqb, leb, ltb}
 use lib.ListN.{getD, length}
 use Rattle.game.specs.Sets.{Row}
 use Rattle.game.specs.Rules.{Head, none, atom, Rule}
@@ -30,6 +30,11 @@ rule-leveled levels (atom a) r = none-above levels a (r .plain) && all-beneath l
 abbrev pub leveled : List ℕ → List Rule → Bool
 leveled levels [] = true
 leveled levels (r ∷ rs) = rule-leveled levels (r .head) r && leveled levels rs
+
+-- the head is of this level
+abbrev pub head-at : List ℕ → ℕ → Head → Bool
+head-at levels l none = false
+head-at levels l (atom a) = eqb (level-in levels a) l
 
 -- the level of each of the first k atoms is how many atoms below n it cannot reach
 abbrev pub Ranked : List Rule → ℕ → ℕ → List ℕ → Type 0

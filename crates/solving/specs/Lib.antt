@@ -2,3 +2,4 @@ pub mod Tests
 pub mod Reached
 pub mod Levels
 pub mod Following
+pub mod Judged

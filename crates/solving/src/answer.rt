@@ -49,7 +49,13 @@ pub fn is_answer_set<const N: usize>(program: &Program<N>, given: &Row<N>, row: 
         return false;
     }
     let all = row.union(given);
-    let smallest = closure(&Reduct { rules, against: &all }, given);
+    let smallest = closure(
+        &Reduct {
+            rules,
+            against: &all,
+        },
+        given,
+    );
     if !smallest.same(&all) {
         return false;
     }

@@ -17,13 +17,19 @@ pub struct Levels<const N: usize> {
 }
 
 impl<const N: usize> Levels<N> {
-    // The level of the atom; past the last it is 0.
-    pub fn at(&self, atom: u16) -> usize
-        ensures { λ r. ⌜ r ≡ level-in (now (self .entry) .of) atom ⌝ }
+    pub(crate) fn as_slice(&self) -> &[usize]
+        ensures { λ r. ⌜ now r ≡ now (self .entry) .of ⌝ }
     {
-        let i = usize::from(atom);
-        if i < N { self.of[i] } else { 0 }
+        &self.of
     }
+}
+
+// The level of the atom; past the last it is 0.
+pub(crate) fn level_of(levels: &[usize], atom: u16) -> usize
+    ensures { λ r. ⌜ r ≡ level-in (now (levels .entry)) atom ⌝ }
+{
+    let i = usize::from(atom);
+    if i < levels.len() { levels[i] } else { 0 }
 }
 
 // The levels of the atoms below N; `none` is the empty set.

@@ -6,4 +6,6 @@ pub mod levels;
 mod literals;
 mod picking;
 mod reduct;
-pub mod strata;
+mod settling;
+mod strata;
+pub mod stratified;

@@ -20,7 +20,12 @@ pub(crate) trait Picks<const N: usize> {
 }
 
 // Marks in `out` the head of every rule that is picked by `from`.
-pub(crate) fn mark_heads<const N: usize, P: Picks<N>>(picker: &P, rules: &[Rule], from: &Row<N>, out: &mut Row<N>)
+pub(crate) fn mark_heads<const N: usize, P: Picks<N>>(
+    picker: &P,
+    rules: &[Rule],
+    from: &Row<N>,
+    out: &mut Row<N>,
+)
     ensures { λ _. ⌜ ((a : ℕ) → a < N → getD (now (out .exit) .marks) a false ≡ (getD (now (out .entry) .marks) a false || headed-by (chosen (now (picker .entry)) (now (from .entry) .marks)) (models (now (rules .entry))) a)) ⌝ }
 {
     for rule in rules {

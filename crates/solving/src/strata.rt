@@ -31,7 +31,7 @@ fn breaks<const N: usize>(rules: &[Rule], none: &Row<N>, rule: &Rule) -> bool
 }
 
 // The place of the first rule that breaks the strata, or none where the program is stratified.
-fn first_break<const N: usize>(program: &Program<N>, none: &Row<N>) -> Option<usize>
+pub(crate) fn first_break<const N: usize>(program: &Program<N>, none: &Row<N>) -> Option<usize>
     requires { ⌜ now none .marks ≡ replicate N false ⌝ }
     ensures { λ r. ⌜ Cases r (Stratified (rules-of (now (program .entry)))) (First-break (rules-of (now (program .entry)))) ⌝ }
 {

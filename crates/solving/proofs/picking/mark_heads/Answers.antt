@@ -18,18 +18,18 @@ loop-rule-again g c a less =
     let r = c .rule-item .result in
     let out = c .loop-rule .out .marks in
     let step : (getD (c .match-rule .out .marks) a false || headed-by p (models (drop (i + 1) rs)) a) ≡ (getD out a false || headed-by p (models (drop i rs)) a) =
-        elim (c .match-rule .came) [
-          in-Atom·then-picks w ↦
-            let wide : a < length out = omega (arith, c .loop-rule .out .wide) in
-            ap (λ b. b || headed-by p (models (drop (i + 1) rs)) a) (ap (λ s. getD s a false) (ap (λ o. o .marks) (w .out-is) ∙ w .put .ensures) ∙ marked-more out _ a wide)
-            ∙ with-head p rs i r (c .loop-rule-test .taken) (c .rule-item .is) a (getD out a false) (w .in-Atom .head) (ap head-model (w .in-Atom .is)) (sym (w .if-picks .ensures tt))
-          | in-Atom·else-picks w ↦
-            ap (λ o. getD (o .marks) a false || headed-by p (models (drop (i + 1) rs)) a) (w .out-is)
-            ∙ unpicked p rs i r (c .loop-rule-test .taken) (c .rule-item .is) a (getD out a false) (sym (w .if-picks .ensures tt))
-          | in-rest w ↦
-            ap (λ o. getD (o .marks) a false || headed-by p (models (drop (i + 1) rs)) a) (w .out-is)
-            ∙ headless p rs i r (c .loop-rule-test .taken) (c .rule-item .is) a (getD out a false) (ap head-model (w .in-rest .is))
-        ] in
+    elim (c .match-rule .came) [
+      | in-Atom·then-picks w ↦
+          let wide : a < length out = omega (arith, c .loop-rule .out .wide) in
+          ap (λ b. b || headed-by p (models (drop (i + 1) rs)) a) (ap (λ s. getD s a false) (ap (λ o. o .marks) (w .out-is) ∙ w .put .ensures) ∙ marked-more out _ a wide)
+          ∙ with-head p rs i r (c .loop-rule-test .taken) (c .rule-item .is) a (getD out a false) (w .in-Atom .head) (ap head-model (w .in-Atom .is)) (sym (w .if-picks .ensures tt))
+      | in-Atom·else-picks w ↦
+          ap (λ o. getD (o .marks) a false || headed-by p (models (drop (i + 1) rs)) a) (w .out-is)
+          ∙ unpicked p rs i r (c .loop-rule-test .taken) (c .rule-item .is) a (getD out a false) (sym (w .if-picks .ensures tt))
+      | in-rest w ↦
+          ap (λ o. getD (o .marks) a false || headed-by p (models (drop (i + 1) rs)) a) (w .out-is)
+          ∙ headless p rs i r (c .loop-rule-test .taken) (c .rule-item .is) a (getD out a false) (ap head-model (w .in-rest .is))
+    ] in
     step ∙ c .loop-rule .inv a less
 
 pub returns : need.returns

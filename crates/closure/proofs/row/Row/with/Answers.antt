@@ -8,6 +8,6 @@ use Rattle.closure.proofs.row.Row.with.Needs.{then-atom, else-atom}
 pub returns : need.returns
 returns g c =
     elim (c .if-atom .came) [
-      then-atom w ↦ ap (λ p. p .0) (w .row-is)
+      | then-atom w ↦ ap (λ p. p .0) (w .row-is)
       | else-atom w ↦ ap (λ p. p .0) (w .row-is) ∙ sym (set-past (c .args .self .now .marks) (c .args .atom) true (omega (arith, c .args .self .now .wide, w .if-atom .left)))
     ]
