@@ -8,6 +8,7 @@ use Rattle.std.specs.shelf.Lists.{Has}
 use Rattle.std.specs.declared.result.Result.{Result}
 use Rattle.std.specs.declared.result.Result.the-variants.{Ok}
 use Rattle.game.specs.Sides.{Side, side-number}
+use Rattle.game.specs.Strata.{Stratified}
 use Rattle.refusals.specs.declared.fault.Fault.{Fault}
 use Rattle.reading.specs.Loads.{Three, Loads}
 use Rattle.grammar.specs.Grammar.{Name, Written, fact, rule, head-names, names, with-names, numbered}
@@ -40,6 +41,8 @@ pub record Allowed (n : ℕ) (p f s : List ℕ) (w : Sources) : Type 0 where
   -- no head of the fault text stands anywhere in the plan text, and no head of the site text in either
   pub fault-heads : (h : Name) → Has (heads (w .faults)) h → Has (names (w .plan)) h → ⊥
   pub site-heads : (h : Name) → Has (heads (w .site)) h → Has (names (w .plan) ++ names (w .faults)) h → ⊥
+  -- the site text is stratified
+  pub strata : Stratified (map (numbered (all-names w)) (w .site))
 
 -- what is read of texts that are written so: the atoms by first appearance, and the rules over their numbers
 pub record Meant (w : Sources) (t : Three) : Type 0 where

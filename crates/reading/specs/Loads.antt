@@ -3,16 +3,18 @@ use mathlib.Core.Path.{_≡_}
 use mathlib.Core.Bool.{Bool, false, cond}
 use mathlib.Core.List.{List, [], _∷_, _++_}
 use Prim.Native.Nat.{ℕ}
+use lib.ListN.{getD}
 use Rattle.std.specs.declared.option.Option.{Option}
 use Rattle.std.specs.declared.option.Option.the-variants.{Some, None}
 use Rattle.std.specs.declared.result.Result.{Result}
 use Rattle.std.specs.declared.result.Result.the-variants.{Ok, Err}
 use Rattle.game.specs.Rules.{Head, none, atom, Rule, stands}
 use Rattle.game.specs.Sides.{Side, side-number}
+use Rattle.game.specs.Strata.{First-break, Stratified}
 use Rattle.refusals.specs.declared.fault.Text.{Text}
 use Rattle.refusals.specs.declared.fault.Text.the-variants.{Plan, Faults, Site}
 use Rattle.refusals.specs.declared.fault.Fault.{Fault}
-use Rattle.refusals.specs.declared.fault.Fault.the-variants.{WrongSide, TakenHead}
+use Rattle.refusals.specs.declared.fault.Fault.the-variants.{WrongSide, TakenHead, Unstratified}
 use Rattle.reading.specs.Steps.{State, Standing, Text-read}
 
 -- the rules of a text, and where each starts
@@ -58,9 +60,10 @@ or-else t None rest = rest
 abbrev pub shared-head : Three → Option Fault
 shared-head t = or-else Faults (taken-head (t .faults .rules) (t .faults .places) (t .plan .rules)) (or-else Site (taken-head (t .site .rules) (t .site .places) (t .plan .rules ++ t .faults .rules)) None)
 
--- question 1, then 2 to 8, then 9
+-- question 1, then 2 to 8, then 9, then 10: is the site text stratified?
 pub data Loads (n : ℕ) (p f s : List ℕ) : Result (Side × Three) Fault → Type 0 where
   wrong-side : ((x : Side) → side-number x ≡ n → ⊥) → Loads n p f s (Err WrongSide)
   unread : {e : Fault} (x : Side) → side-number x ≡ n → Three-read p f s (Err e) → Loads n p f s (Err e)
   head-refused : {e : Fault} (x : Side) (t : Three) → side-number x ≡ n → Three-read p f s (Ok t) → shared-head t ≡ Some e → Loads n p f s (Err e)
-  loads : (x : Side) (t : Three) → side-number x ≡ n → Three-read p f s (Ok t) → shared-head t ≡ None → Loads n p f s (Ok (x, t))
+  strata-refused : (x : Side) (t : Three) (i : ℕ) → side-number x ≡ n → Three-read p f s (Ok t) → shared-head t ≡ None → First-break (t .site .rules) i → Loads n p f s (Err (Unstratified (getD (t .site .places) i 0)))
+  loads : (x : Side) (t : Three) → side-number x ≡ n → Three-read p f s (Ok t) → shared-head t ≡ None → Stratified (t .site .rules) → Loads n p f s (Ok (x, t))

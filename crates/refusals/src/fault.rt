@@ -33,6 +33,8 @@ pub enum Fault {
     ManyAtoms { text: Text, at: usize },
     // This head stands in an earlier text.
     TakenHead { text: Text, at: usize },
+    // The rule at this byte of the site text breaks the strata.
+    Unstratified { at: usize },
     // What is to be written does not fit the buffer.
     NoRoom,
     // No memory was to be had.
@@ -67,6 +69,7 @@ impl Fault {
             Fault::ManyRules { .. } => 7,
             Fault::ManyAtoms { .. } => 8,
             Fault::TakenHead { .. } => 9,
+            Fault::Unstratified { .. } => 10,
             Fault::NoRoom => 17,
             Fault::NoMemory => 99,
         }
@@ -86,6 +89,7 @@ impl Fault {
             | Fault::ManyRules { text, .. }
             | Fault::ManyAtoms { text, .. }
             | Fault::TakenHead { text, .. } => text.number(),
+            Fault::Unstratified { .. } => Text::Site.number(),
         }
     }
 
@@ -101,7 +105,8 @@ impl Fault {
             | Fault::LongBody { at, .. }
             | Fault::ManyRules { at, .. }
             | Fault::ManyAtoms { at, .. }
-            | Fault::TakenHead { at, .. } => at,
+            | Fault::TakenHead { at, .. }
+            | Fault::Unstratified { at } => at,
         }
     }
 }
