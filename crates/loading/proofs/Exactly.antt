@@ -16,7 +16,7 @@ use Rattle.loading.specs.Loaded.{Game-gives, Allowed-exactly}
 
 exactly : (n : ℕ) (p f s : List ℕ) (r : Result Game Fault) → Game-gives n p f s r → Allowed-exactly n p f s r
 exactly n p f s (Ok g) h = loaded-is-allowed n p f s (side-of (g .side)) (three-of (g .texts)) h
-exactly n p f s (Err e) h = ⊎-elim inl (λ refused. inr (λ w a. let l = allowed-is-loaded n p f s w a in err-ok (one-loading .0 n p f s _ _ refused (l .2)))) h
+exactly n p f s (Err e) h = ⊎-elim (λ (starved, _). inl starved) (λ refused. inr (λ w a. let l = allowed-is-loaded n p f s w a in err-ok (one-loading .0 n p f s _ _ refused (l .2)))) h
 
 -- both clauses of a load, from the first
 pub both : (n : ℕ) (p f s : List ℕ) (r : Result Game Fault) → Game-gives n p f s r → record { gives : Game-gives n p f s r; allowed : Allowed-exactly n p f s r }

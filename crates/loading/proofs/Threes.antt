@@ -21,10 +21,11 @@ use Rattle.reading.specs.Loads.{Part, Three, part, three, Three-read, plan-refu
 use Rattle.reading.specs.Sections.{part-of, Shows, Gives}
 use Rattle.reading.specs.Tables.{standings-of}
 use Rattle.reading.proofs.Growing.{text-longer}
+use Rattle.reading.proofs.Running.{read-length}
 
--- a refusal that came up through a `?`
-pub told : (T U : Fault → Type 0) (x y : Fault) → x ≡ y → (y ≡ NoMemory) ⊎ T y → ((e : Fault) → T e → U e) → (x ≡ NoMemory) ⊎ U x
-told T U x y same why up = ⊎-elim (λ none. inl (same ∙ none)) (λ t. inr (up x (subst T (sym same) t))) why
+-- a refusal that came up through a `?`: for want of memory, where A holds, or as the text below it is refused
+pub told : (A B : Type 0) (T U : Fault → Type 0) (x y : Fault) → x ≡ y → ((y ≡ NoMemory) × A) ⊎ T y → (A → B) → ((e : Fault) → T e → U e) → ((x ≡ NoMemory) × B) ⊎ U x
+told A B T U x y same why still up = ⊎-elim (λ (none, a). inl (same ∙ none, still a)) (λ t. inr (up x (subst T (sym same) t))) why
 
 -- the text is read as this section, with this table then
 abbrev Ran : Text → List ℕ → List Standing → Section → Atoms → Type 0
@@ -45,6 +46,9 @@ plan-read p ps pa first = from Plan p (Ok (first .ran .0)) (first .none) [] (fir
 -- a text that follows one with this state and table
 next : (t : Text) (text : List ℕ) (r : Result State Fault) (d : State) (s : Section) (a : Atoms) → Shows d s a → Text-read t text (standings-of a) r → Text-read t text (d .atoms) r
 next t text r d s a shows h = from t text r (standings-of a) (d .atoms) (shows .atoms) h
+
+pub plan-length : (p : List ℕ) (ps : Section) (pa : Atoms) (first : First p ps pa) → length p ≤ 16384
+plan-length p ps pa first = read-length Plan p [] (first .ran .0) (plan-read p ps pa first)
 
 module _ (p f s : List ℕ) where
   pub plan-fails : (none : List Standing) → none ≡ [] → (e : Fault) → Text-read Plan p none (Err e) → Three-read p f s (Err e)

@@ -12,7 +12,7 @@ pub struct Game<'a> {
     pub texts: Texts<'a>,
 }
 
-// Question 1, then 2 to 8 of each text, then 9.
+// Question 1, then 2 to 8 of each text, then 9 and 10.
 pub fn read_game<'a>(
     heap: Global,
     side: u8,
@@ -26,5 +26,6 @@ pub fn read_game<'a>(
     let side = Side::from_number(side)?;
     let texts = read_texts(heap, plan, faults, site)?;
     texts.heads_apart()?;
+    texts.strata_kept()?;
     Ok(Game { side, texts })
 }

@@ -4,11 +4,12 @@ use mathlib.Core.Bool.{Bool, true, false}
 use mathlib.Core.List.{List}
 use mathlib.Core.Logic.{inl, inr}
 use Prim.Native.Nat.{ℕ, _≤_, _<_}
+use native.Mathlib.Omega.{arith}
 use lib.Dec.{leb}
 use lib.ListN.{length}
 use Rattle.std.specs.declared.result.Result.{Result}
 use Rattle.std.specs.declared.result.Result.the-variants.{Ok, Err}
-use Rattle.std.proofs.shelf.Tests.{le-leb, lt-leb}
+use Rattle.std.proofs.shelf.Tests.{le-leb, lt-leb, leb-true}
 use Rattle.refusals.specs.declared.fault.Text.{Text}
 use Rattle.refusals.specs.declared.fault.Fault.{Fault}
 use Rattle.refusals.specs.declared.fault.Fault.the-variants.{LongText}
@@ -35,3 +36,11 @@ module _ (t : Text) (text : List ℕ) (before : List Standing) where
   pub finished : (want : Result State Fault) (r : Result (Section × Atoms) Fault) → Finishes want r → Text-read t text before want → Gives t text before r
   finished want (Ok s) f h = (f .0, subst (Text-read t text before) (f .1) h, f .2)
   finished want (Err g) f h = inr (subst (Text-read t text before) f h)
+
+-- a text that is read is not too long
+pub read-length : (t : Text) (text : List ℕ) (before : List Standing) (d : State) → Text-read t text before (Ok d) → length text ≤ 16384
+read-length t text before d h = go (leb (length text) 16384) refl h
+  where
+    go : (b : Bool) → leb (length text) 16384 ≡ b → by-length t text before (Ok d) b → length text ≤ 16384
+    go true short h = leb-true (length text) 16384 short
+    go false long h = let z : _≡_ {A = ℕ} 0 1 = cc in omega arith

@@ -2,7 +2,8 @@
 use mathlib.Core.Path.{_≡_}
 use mathlib.Core.Logic.{_⊎_}
 use mathlib.Core.List.{List}
-use Prim.Native.Nat.{ℕ}
+use Prim.Native.Nat.{ℕ, _≤_}
+use lib.ListN.{length}
 use Rattle.std.specs.Of.Vec.{vec-items}
 use Rattle.std.specs.declared.result.Result.{Result}
 use Rattle.std.specs.declared.result.Result.the-variants.{Ok, Err}
@@ -31,7 +32,7 @@ abbrev pub Finishes : Result State Fault → Result (Section × Atoms) Fault →
 Finishes want (Ok s) = (d : State) × (want ≡ Ok d) × Shows d (s .0) (s .1)
 Finishes want (Err f) = want ≡ Err f
 
--- a text is read as it should be, unless no memory was to be had
+-- a text is read as it should be, unless no memory was to be had for a text that is not too long
 abbrev pub Gives : Text → List ℕ → List Standing → Result (Section × Atoms) Fault → Type 0
 Gives t text before (Ok s) = (d : State) × Text-read t text before (Ok d) × Shows d (s .0) (s .1)
-Gives t text before (Err f) = (f ≡ NoMemory) ⊎ Text-read t text before (Err f)
+Gives t text before (Err f) = ((f ≡ NoMemory) × (length text ≤ 16384)) ⊎ Text-read t text before (Err f)

@@ -2,7 +2,8 @@
 ghost use mathlib.Core.Path.{_≡_};
 ghost use Rattle.std.specs.Results.{Cases};
 ghost use Rattle.std.specs.declared.option.Option.the-variants.{Some, None};
-ghost use Rattle.loading.specs.Read.{three-of, Three-gives};
+ghost use Rattle.game.specs.Strata.{Stratified};
+ghost use Rattle.loading.specs.Read.{three-of, Three-gives, Unlayered};
 ghost use Rattle.reading.specs.Loads.{shared-head};
 ghost use Rattle.reading.specs.Sections.{part-of};
 ghost use Rattle.reading.specs.Tables.{standings-of};
@@ -13,6 +14,7 @@ use reading::table::Atoms;
 use reading::text::read_text;
 use refusals::fault::Fault;
 use refusals::fault::Text;
+use solving::strata::unstratified_rule;
 use std::alloc::Global;
 
 // Questions 2 to 8 of the plan text, the fault text and the site text in turn.
@@ -55,6 +57,17 @@ impl<'a> Texts<'a> {
             });
         }
         Ok(())
+    }
+
+    // Question 10: is the site text stratified?
+    pub fn strata_kept(&self) -> Result<(), Fault>
+        ensures { λ r. ⌜ Cases r (λ _. Stratified (three-of (now (self .entry)) .site .rules)) (Unlayered (three-of (now (self .entry)) .site)) ⌝ }
+    {
+        let places = self.site.places();
+        match unstratified_rule(self.site.program()) {
+            None => Ok(()),
+            Some(i) => Err(Fault::Unstratified { at: places[i] }),
+        }
     }
 
     pub fn plan(&self) -> &Section

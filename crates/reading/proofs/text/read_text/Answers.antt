@@ -65,7 +65,7 @@ returns-in-Break-take c =
     let w = word-of (c .in-Some .spot .token) in
     let next = ap (λ bs. lexed bs at) (sym (c .loop-draft .inv .1)) ∙ subst (λ o. Tells (c .loop-draft .lexer .text) (lexed (c .loop-draft .lexer .bytes .now) at) (c .next .last .self .at) (Ok o)) (c .in-Some .is) (c .in-Continue-spot .ensures tt .tells) in
     rw (p .1)
-    (⊎-elim (λ none. inl (p .2 ∙ none))
+    (⊎-elim (λ none. inl (p .2 ∙ none, c .if-bytes-gt-LONGEST-TEXT .left))
     (λ fault.
     let step-fault : step t (c .in-Some .spot .at) d w ≡ Err (p .0) = ap (λ u. step u (c .in-Some .spot .at) d w) (sym (c .loop-draft .inv .2)) ∙ fault ∙ ap Err (sym (p .2)) in
     let whole = as-fresh (c .args .text) text (standings-of (c .args .atoms)) t (state-of (c .new-draft .result)) (Err (p .0)) (c .new-draft .ensures .text) (c .new-draft .ensures .state) (c .loop-draft .inv .4 (Err (p .0)) (refused (c .in-Some .spot .at) (c .next .last .self .at) w (p .0) next step-fault)) in
