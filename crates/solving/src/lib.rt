@@ -7,5 +7,5 @@ mod literals;
 mod picking;
 mod reduct;
 mod settling;
-mod strata;
+pub mod strata;
 pub mod stratified;

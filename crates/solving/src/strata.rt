@@ -43,3 +43,10 @@ pub(crate) fn first_break<const N: usize>(program: &Program<N>, none: &Row<N>) -
     }
     None
 }
+
+// The same, for a program of a load.
+pub fn breaking_rule(program: &Program<96>) -> Option<usize>
+    ensures { λ r. ⌜ Cases r (Stratified (rules-of (now (program .entry)))) (First-break (rules-of (now (program .entry)))) ⌝ }
+{
+    first_break(program, &Row::clear())
+}
