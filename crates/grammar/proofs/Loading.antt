@@ -1,10 +1,12 @@
 -- Three texts: what loads is allowed, and what is allowed loads.
+use mathlib.Core.Path.{sym, subst}
 use mathlib.Core.List.{List, [], _++_, append-nil}
 use Prim.Native.Nat.{ℕ, _≤_}
 use native.Mathlib.Omega.{arith}
 use lib.ListN.{length}
 use Rattle.std.proofs.shelf.Lists.{length-map}
 use Rattle.std.specs.declared.result.Result.the-variants.{Ok}
+use Rattle.game.specs.Strata.{Stratified}
 use Rattle.refusals.specs.declared.fault.Text.the-variants.{Plan, Faults, Site}
 use Rattle.reading.specs.Steps.{State, Text-read}
 use Rattle.reading.specs.Loads.{three, all-read, loads}
@@ -31,14 +33,14 @@ turns-allowed {p = p} {f} {s} {w} h =
     (d, d′, d″, record { plan = first; faults = second; site = third })
 
 pub loaded-is-allowed : Loaded-is-allowed
-loaded-is-allowed n p f s y u (loads x t e (all-read d d′ d″ a b c) free) =
+loaded-is-allowed n p f s y u (loads x t e (all-read d d′ d″ a b c) free even) =
     let (w, o) = turns-read p f s d d′ d″ a b c in
     let apart = unshared o .0 free in
     let few : length (all-names w) ≤ 96 = rw (← after-site o) (simp length-map (within (o .site) .atoms)) in
-    (w, record { side = (x, e); plan = o .plan .spelled; faults = o .faults .spelled; site = o .site .spelled; few = few; fault-heads = apart .0; site-heads = apart .1 }, meant o)
+    (w, record { side = (x, e); plan = o .plan .spelled; faults = o .faults .spelled; site = o .site .spelled; few = few; fault-heads = apart .0; site-heads = apart .1; strata = subst Stratified (meant o .site) even }, meant o)
 
 pub allowed-is-loaded : Allowed-is-loaded
 allowed-is-loaded n p f s w h =
     let (x, e) = h .side in
     let (d, d′, d″, o) = turns-allowed h in
-    (x, three d d′ d″, loads x (three d d′ d″) e (all-read d d′ d″ (o .plan .read) (o .faults .read) (o .site .read)) (unshared o .1 (h .fault-heads, h .site-heads)), meant o)
+    (x, three d d′ d″, loads x (three d d′ d″) e (all-read d d′ d″ (o .plan .read) (o .faults .read) (o .site .read)) (unshared o .1 (h .fault-heads, h .site-heads)) (subst Stratified (sym (meant o .site)) (h .strata)), meant o)

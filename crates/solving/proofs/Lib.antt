@@ -5,3 +5,4 @@ pub mod Reaching
 pub mod Breaking
 pub mod Leveling
 pub mod Judgement
+pub mod Deciding

@@ -31,11 +31,11 @@ any-grows : (s t : Row) → Within s t → (as′ : List ℕ) → any-in s as′
 any-grows s t within [] e = e
 any-grows s t within (a ∷ as′) e = ⊎-elim (λ here. or-left _ _ (within a here)) (λ later. or-right _ _ (any-grows s t within as′ later)) (or-cases (getD s a false) (any-in s as′) e)
 
-touches-grows : (s t : Row) → Within s t → (r : Rule) → touches s r ≡ true → touches t r ≡ true
+pub touches-grows : (s t : Row) → Within s t → (r : Rule) → touches s r ≡ true → touches t r ≡ true
 touches-grows s t within r e = ⊎-elim (λ p. or-left _ _ (any-grows s t within (r .plain) p)) (λ n. or-right _ _ (any-grows s t within (r .negated) n)) (or-cases (any-in s (r .plain)) (any-in s (r .negated)) e)
 
 -- where a larger set picks more rules, it has more heads
-headed-grows : (p q : Rule → Bool) → ((r : Rule) → p r ≡ true → q r ≡ true) → (rules : List Rule) (a : ℕ) → headed-by p rules a ≡ true → headed-by q rules a ≡ true
+pub headed-grows : (p q : Rule → Bool) → ((r : Rule) → p r ≡ true → q r ≡ true) → (rules : List Rule) (a : ℕ) → headed-by p rules a ≡ true → headed-by q rules a ≡ true
 headed-grows p q more [] a e = e
 headed-grows p q more (r ∷ rs) a e =
     ⊎-elim (λ here. let both = and-parts (heads a (r .head)) (p r) here in or-left _ _ (and-from _ _ (both .0) (more r (both .1)))) (λ later. or-right _ _ (headed-grows p q more rs a later)) (or-cases (heads a (r .head) && p r) (headed-by p rs a) e)
