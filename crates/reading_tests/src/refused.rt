@@ -97,3 +97,40 @@ static HEADS: [Texts<'static>; 12] = [
 fn heads_taken(rt: LibcRuntime) -> Result<(), Fail> {
     check_texts(rt.alloc(), &HEADS)
 }
+
+// A site text that is not stratified; the plan text and the fault text need not be.
+static STRATA: [Texts<'static>; 10] = [
+    (1, "a.", "b.", "p :- not p.", (10, 3, 0)),
+    (1, "a.", "b.", "p :- not q. q :- p.", (10, 3, 0)),
+    (1, "a.", "b.", "q :- p. p :- not q.", (10, 3, 8)),
+    (
+        1,
+        "a.",
+        "b.",
+        "r. p :- q. q :- not r, not s. s :- p.",
+        (10, 3, 11),
+    ),
+    (1, "a.", "b.", "p :- not q. q :- not p.", (10, 3, 0)),
+    (1, "a.", "b.", "a. p :- not p.", (9, 3, 0)),
+    (1, "a.", "b.", "p :- p.", (0, 0, 0)),
+    (
+        1,
+        "a.",
+        "b.",
+        "p :- q. q :- p. r :- not p. :- not r.",
+        (0, 0, 0),
+    ),
+    (
+        1,
+        "a :- not c. c :- not a.",
+        "b :- not b.",
+        "p :- not b, not a.",
+        (0, 0, 0),
+    ),
+    (1, "a.", "b.", ":- not p. p :- q, not b. q :- p.", (0, 0, 0)),
+];
+
+#[test]
+fn strata_broken(rt: LibcRuntime) -> Result<(), Fail> {
+    check_texts(rt.alloc(), &STRATA)
+}
