@@ -78,7 +78,7 @@ fn plans(rt: LibcRuntime) -> Result<(), Fail> {
 }
 
 // A head that stands in an earlier text.
-static HEADS: [Texts<'static>; 12] = [
+static HEADS: [Texts<'static>; 13] = [
     (1, "a :- not b.", "b.", "", (9, 2, 0)),
     (1, "a :- b.", "c. b.", "", (9, 2, 3)),
     (1, "a.", "% x\n a :- c.", "", (9, 2, 5)),
@@ -88,6 +88,7 @@ static HEADS: [Texts<'static>; 12] = [
     (1, "a.", "b :- c.", "c.", (9, 3, 0)),
     (1, "a.", "b :- not c.", "d :- a. c :- d.", (9, 3, 8)),
     (1, "a.", "b.", "c. :- a. b. a.", (9, 3, 9)),
+    (1, ":- a.", "b.", "c.", (0, 0, 0)),
     (1, "a.", ":- a.", ":- a.", (0, 0, 0)),
     (1, "a.", "b :- a. b.", "c :- b, a, c. c.", (0, 0, 0)),
     (1, "a. a.", "b.", "c :- not a.", (0, 0, 0)),
