@@ -1,4 +1,4 @@
-// Strata, and whether a site text holds for given atoms.
+// The first rule that breaks the strata.
 use crate::rows::row_of;
 use reading::table::Atoms;
 use reading::text::read_text;

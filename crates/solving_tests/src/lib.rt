@@ -1,4 +1,4 @@
-// Answer sets, strata and judgements of small texts, run through the code.
+// Answer sets and strata of small texts, run through the code. The judgement is proved and not run here.
 #[cfg(test)]
 mod answers;
 #[cfg(test)]
