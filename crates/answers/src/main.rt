@@ -1,4 +1,6 @@
 // Lists the answer sets of the text on the standard input.
+#![tactic(auto)]
+
 use anyhow::anyhow;
 use closure::row::Row;
 use finders::branching::Branching;

@@ -1,4 +1,6 @@
 // The book that is kept on a game: load, ask, strike, look, wipe.
+#![tactic(auto)]
+
 pub mod book;
 mod following;
 mod judging;

@@ -1,4 +1,6 @@
 // Small games, run through the calls of a book.
+#![tactic(auto)]
+
 #[cfg(test)]
 mod calls;
 #[cfg(test)]

@@ -1,4 +1,6 @@
 // Runs small random programs through the solver and through a second solver of its own, and compares the two.
+#![tactic(auto)]
+
 mod comparing;
 mod dice;
 mod job;

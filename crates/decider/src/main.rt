@@ -1,4 +1,6 @@
 // Reads a site's three texts from the current folder, and tells the first winning plan, or that there is none, or why the texts are refused.
+#![tactic(auto)]
+
 use deciding::deciding::decide;
 use refusals::fault::Fault;
 use refusals::line::refusal_line;

@@ -1,4 +1,6 @@
 // Worked examples: each holds by the definitions of reading, loading, answer sets, the game and the book.
+#![tactic(auto)]
+
 ghost use Rattle.std.specs.Prelude.{[], ◌∷◌, codes};
 ghost use Rattle.runs.specs.Book.{coherent, incoherent};
 ghost use Rattle.examples.specs.Examples.{answer_sets, loads, refused, game, on_side, site_alone, by_counting, by_branching, shows, shows_none, strikes, Hold};

@@ -1,4 +1,6 @@
 // Finders of answer sets: what each owes, the counting one and the branching one.
+#![tactic(auto)]
+
 mod bounding;
 pub mod branching;
 pub mod counting;

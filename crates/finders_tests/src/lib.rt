@@ -1,4 +1,6 @@
 // Listings of small texts, run through the finders.
+#![tactic(auto)]
+
 #[cfg(test)]
 mod finding;
 #[cfg(test)]

@@ -1,6 +1,6 @@
 -- What fixing a set says of a model, and which atoms stand there.
 use Rattle.std.proofs.Common.{◌≡◌, ℕ, zero, suc, ◌<◌, Bool, true, false, cond, ◌&&◌, ◌||◌, eqb, ◌↔◌, List, [], ◌∷◌, ◌++◌, length, get_or, sym, refl, inl, inr, arith}
-use mathlib.Core.Bool.{or_false, and_true, and_false}
+use mathlib.Core.Bool.{or-false, and-true, and-false}
 use mathlib.Core.Logic.Iff
 use Rattle.std.specs.List.{AllByRecursion as All}
 use Rattle.std.proofs.lemmas.Bool.{false≢true, eqb-true, eq-eqb, and_parts, and_from, or_cases, or_left}
@@ -41,9 +41,9 @@ module _ (base : List Rule) (m : Row) where
   stands_fixing a b = go (get_or m b false) (stands b base)
     where
       go : (c d : Bool) → stands a (choice b c d) ≡ (eqb a b && (c || d))
-      go true d = simp (or_false, and_true)
-      go false true = simp (or_false, and_true)
-      go false false = sym (and_false (eqb a b))
+      go true d = simp (or-false, and-true)
+      go false true = simp (or-false, and-true)
+      go false false = sym (and-false (eqb a b))
 
   pub member_stands : (n a : ℕ) → a < n → In a m → stands a (fixed n base m) ≡ true
   member_stands zero = λ a l. absurd (omega arith)

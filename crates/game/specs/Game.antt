@@ -1,5 +1,5 @@
 -- The game of plans against faults: two quantifiers over answer sets, and a check.
-use Rattle.std.specs.Prelude.{◌≡◌, false, List, replicate}
+use Rattle.std.specs.Prelude.{false, List, replicate}
 use Rattle.game.specs.Sets.{Row, union}
 use Rattle.game.specs.Rules.{Rule}
 use Rattle.game.specs.Sides.{Side, some_plan, every_plan}

@@ -1,10 +1,10 @@
 -- The same game as it is published for answer-set programs with two quantifiers, where a set is handed on by fixing it:
 -- a fact for each atom in the set, and a constraint for each other atom of the program that it comes from.
 use Rattle.std.specs.Prelude.{◌≡◌, ℕ, zero, suc, ◌<◌, Bool, true, false, cond, ◌||◌, ◌↔◌, List, [], ◌∷◌, ◌++◌, length, ◌≢◌, slice_index_or}
-use Rattle.std.specs.List.{ContainsAt as Has, AllByRecursion as All}
+use Rattle.std.specs.List.{ContainsAt as Has}
 use Rattle.game.specs.Sets.{Row, In, Within}
 use Rattle.game.specs.Rules.{Head, none, atom, Rule, stands, is_head, PlainIn, Kept}
-use Rattle.game.specs.Sides.{Side, some_plan, every_plan}
+use Rattle.game.specs.Sides.{some_plan, every_plan}
 use Rattle.game.specs.Game.{Texts, Coherent}
 
 -- some atom of the list is in x

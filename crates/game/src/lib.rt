@@ -1,4 +1,6 @@
 // The meaning of the game, as definitions in specs/, and what is proved of them.
+#![tactic(auto)]
+
 ghost use Rattle.game.specs.Published.{CoherenceIsAsPublished};
 
 // For texts over atoms below 96, no head of which stands in an earlier text, coherence is as published, where an answer set is handed on by fixing it.

@@ -1,4 +1,6 @@
 // What a text may be and what three texts may be, in the grammar's own words, and that reading and loading accept exactly that.
+#![tactic(auto)]
+
 ghost use Rattle.grammar.specs.Accepted.{ReadIsSpelled, SpelledIsRead, OneReading};
 ghost use Rattle.grammar.specs.Loaded.{LoadedIsAllowed, AllowedIsLoaded, OneLoading};
 

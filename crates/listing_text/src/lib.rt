@@ -1,3 +1,5 @@
 // What the program that lists answer sets takes in and prints, as functions on values.
+#![tactic(auto)]
+
 pub mod lines;
 pub mod words;

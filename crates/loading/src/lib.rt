@@ -1,4 +1,6 @@
 // Reads a side and three texts: the questions of each text, and those over the texts together.
+#![tactic(auto)]
+
 pub mod game;
 mod heads;
 pub mod side;

@@ -1,2 +1,4 @@
 // An atom's name, as the part of a text where the atom first stands.
+#![tactic(auto)]
+
 pub mod name;

@@ -1,3 +1,5 @@
 // Rules and programs as values, with the limits that every program keeps.
+#![tactic(auto)]
+
 pub mod program;
 pub mod rule;

@@ -1,4 +1,6 @@
 // Reads one text: characters, tokens, rules, and the table of atoms.
+#![tactic(auto)]
+
 mod classes;
 mod draft;
 mod lexer;

@@ -1,4 +1,6 @@
 // Tests of reading a side and three texts: what is refused, at which place, in which order, and what is read.
+#![tactic(auto)]
+
 #[cfg(test)]
 mod accepted;
 #[cfg(test)]

@@ -1,4 +1,6 @@
 // What the program takes in and prints, as functions on values.
+#![tactic(auto)]
+
 pub mod input;
 mod known;
 mod lines;

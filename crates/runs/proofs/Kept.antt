@@ -1,6 +1,6 @@
 -- Each call leaves a book that keeps to what a book keeps to, if it finds one.
 use Rattle.std.proofs.Common.{◌≡◌, ◌<◌, ◌≤◌, Bool, true, false, cond, ltb, List, [], ◌∷◌, ◌++◌, map, length, Some, None, Option, sym, refl, subst, inl, inr, arith}
-use mathlib.Core.List.{map_append}
+use mathlib.Core.List.{map-append}
 use Rattle.std.specs.List.{ContainsAt as Has}
 use Rattle.std.proofs.lemmas.List.{length_push}
 use Rattle.std.proofs.ByRecursion.{has_push_cases}
@@ -43,8 +43,8 @@ module _ (t : Texts) (s : List Pair) (m r : Row) (sheet : Sheet t s) (plan : Pla
   pushed : length s < 256 → Sheet t (s ++ (pair ∷ []))
   pushed less = record {
     beat = λ q h. elim (has_push_cases s (pair) q h) [ inl k ↦ sheet.beat q k | inr e ↦ subst (λ x. Plan t x.plan × Beats t x.plan x.reply) e (plan, beats) ];
-    plans = subst Differ (sym (map_append (λ p. p.plan) s (pair ∷ []))) (differ_push (map (λ p. p.plan) s) m sheet.plans new_plan);
-    replies = subst Differ (sym (map_append (λ p. p.reply) s (pair ∷ []))) (differ_push (map (λ p. p.reply) s) r sheet.replies new_reply);
+    plans = subst Differ (sym (map-append (λ p. p.plan) s (pair ∷ []))) (differ_push (map (λ p. p.plan) s) m sheet.plans new_plan);
+    replies = subst Differ (sym (map-append (λ p. p.reply) s (pair ∷ []))) (differ_push (map (λ p. p.reply) s) r sheet.replies new_reply);
     few = simp length_push (omega arith);
   }
 

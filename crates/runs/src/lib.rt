@@ -1,4 +1,6 @@
 // The book that is kept on a game: what each of its calls answers and leaves, and what holds after every list of calls.
+#![tactic(auto)]
+
 ghost use Rattle.runs.specs.Runs.{EachCallHasOneOutcome, NoOrderOfCallsSpoilsABook};
 
 // Whatever the book, a call gives one answer and leaves one book, and no other; and each call leaves a book in order if it finds one so.

@@ -1,4 +1,6 @@
 // Decides answer sets: the reduct and the dependency edges as growing steps, the test, strata, levels and judgement.
+#![tactic(auto)]
+
 pub mod answer;
 pub mod bounds;
 mod constraints;

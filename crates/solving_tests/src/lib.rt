@@ -1,4 +1,6 @@
 // Answer sets, strata and judgements of small texts, run through the code.
+#![tactic(auto)]
+
 #[cfg(test)]
 mod answers;
 #[cfg(test)]
