@@ -6,8 +6,8 @@ use crate::row::Row;
 use crate::step::Step;
 
 pub fn closure<const N: usize, S: Step<N>>(step: &S, start: &Row<N>) -> Row<N>
-    ensures smallest { SmallestClosed N (follows step.now) start.now.marks result.marks }
-    ensures rounds { Rounds N (follows step.now) start.now.marks result.marks }
+    ensures smallest { SmallestClosed N (S.follows step.now) start.now.marks result.marks }
+    ensures rounds { Rounds N (S.follows step.now) start.now.marks result.marks }
 {
     let mut set = *start;
     loop {

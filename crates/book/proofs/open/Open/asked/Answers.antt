@@ -12,8 +12,8 @@ use Rattle.book.proofs.open.Open.asked.Goals as goal
 pub first-winning-shown-requires : goal.first-winning-shown-requires
 first-winning-shown-requires g c = (takes (g.F.Finder.meaning c.args.finder.now) c.args.self.loaded c.requires, c.args.self.sheet_room)
 
-pub invariant-of-result : goal.invariant-of-result
-invariant-of-result g c =
+pub invariant_of-result : goal.invariant_of-result
+invariant_of-result g c =
     let f = g.F.Finder.meaning c.args.finder.now in
     let o = c.args.self in
     let t = texts_from o.loaded in

@@ -4,8 +4,8 @@ use Rattle.runs.specs.Runs.{Keeps}
 use Rattle.book.proofs.Calls.{struck_book, strike_keeps}
 use Rattle.book.proofs.open.Open.with_struck.Goals as goal
 
-pub invariant-of-result : goal.invariant-of-result
-invariant-of-result c =
+pub invariant_of-result : goal.invariant_of-result
+invariant_of-result c =
     let o = c.args.self in
     let r = c.args.row in
     (omega (arith, o.struck_room, c.push-reserved.ensures.capacity), (o.sheet_room, (∥∥₁_map o.kept (λ keeps. subst Keeps (sym (struck_book o.loaded o.struck c.push-reserved.new.self o.sheet o.shown r c.push-reserved.ensures.items)) (strike_keeps o.loaded o.struck o.sheet o.shown r c.requires.0 c.requires.1 keeps)), tt)))

@@ -15,8 +15,8 @@ loaded-requires c =
     let l = c.in-ok-game.ensures.gives in
     (loads_readable c.args.side c.args.plan.now c.args.faults.now c.args.site.now x l, loads_stratified c.args.side c.args.plan.now c.args.faults.now c.args.site.now x l)
 
-pub invariant-of-result : goal.invariant-of-result
-invariant-of-result c =
+pub invariant_of-result : goal.invariant_of-result
+invariant_of-result c =
     let x : Side × Three = (side_of c.in-ok-game.game.side, three_of c.in-ok-game.game.texts) in
     let l = c.in-ok-game.ensures.gives in
     let is = opened_book c.loaded.result c.in-ok-struck.struck c.in-ok-sheet.sheet x c.loaded.ensures c.in-ok-struck.ensures.items c.in-ok-sheet.ensures.items in

@@ -1,5 +1,5 @@
 use lib.ListN.{length-replicate}
 use Rattle.closure.proofs.row.Row.clear.Goals as goal
 
-pub invariant-of-result : goal.invariant-of-result
-invariant-of-result g c = (length-replicate g.row.N _, tt)
+pub invariant_of-result : goal.invariant_of-result
+invariant_of-result g c = (length-replicate g.row.N _, tt)

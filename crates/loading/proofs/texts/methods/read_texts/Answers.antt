@@ -31,8 +31,8 @@ returns-in-err-site c =
     let s = c.args.site.now in
     rw e.1 (told (length s ≤ 16384) (length p ≤ 16384) (λ x. TextRead Site s (standings_of c.in-ok-faults.atoms) (Err x)) (λ x. ThreeRead p f s (Err x)) e.0 _ e.2 c.in-err-site.ensures (λ _. plan_length p c.in-ok-plan.plan c.in-ok-plan.atoms (record { none = standings_of c.new-atoms.result; empty = c.new-atoms.ensures; ran = c.in-ok-plan.ensures })) (site_fails p f s c.in-ok-plan.plan c.in-ok-plan.atoms (record { none = standings_of c.new-atoms.result; empty = c.new-atoms.ensures; ran = c.in-ok-plan.ensures }) c.in-ok-faults.faults c.in-ok-faults.atoms c.in-ok-faults.ensures))
 
-pub invariant-of-result : goal.invariant-of-result
-invariant-of-result c =
+pub invariant_of-result : goal.invariant_of-result
+invariant_of-result c =
     let chain : Chain c.args.plan.now c.args.faults.now c.args.site.now c.in-ok-plan.plan c.in-ok-plan.atoms c.in-ok-faults.faults c.in-ok-faults.atoms c.in-ok-site.site c.in-ok-site.atoms =
     record { plan = record { none = standings_of c.new-atoms.result; empty = c.new-atoms.ensures; ran = c.in-ok-plan.ensures }; faults = c.in-ok-faults.ensures; site = c.in-ok-site.ensures } in
     (plan_below chain, (faults_below chain, (site_below chain, tt)))

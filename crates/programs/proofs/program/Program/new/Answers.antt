@@ -8,8 +8,8 @@ use Rattle.programs.proofs.program.Program.new.Goals as goal
 pub returns-then-len-gt256 : goal.returns-then-len-gt256
 returns-then-len-gt256 g c = and_left _ _ (lt-leb (length (models (vec_items c.args.rules))) 256 (omega (arith, length-map (vec_items c.args.rules) model, c.args.rules.ok.0)))
 
-pub invariant-of-result : goal.invariant-of-result
-invariant-of-result g c =
+pub invariant_of-result : goal.invariant_of-result
+invariant_of-result g c =
     let few = le-leb (length (models (vec_items c.args.rules))) 256 (omega (arith, length-map (vec_items c.args.rules) model, c.args.rules.ok.0)) in
     let all : all_fit g.row.N (models (vec_items c.args.rules)) ≡ true = ap (λ rs. all_fit g.row.N (models rs)) (sym c.as-slice.ensures.value) ∙ sym c.if-not-all-fit.ensures in
     (and_from _ _ few all, tt)

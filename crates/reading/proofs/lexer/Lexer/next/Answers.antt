@@ -17,8 +17,8 @@ returns-in-err-token c =
     let next = ap (lexical_fault c.args.self.now.text) (lexed_at bs c.args.self.now.at _ c.skip-gap-at.ensures.value) in
     record { tells = rw p.1 (next ∙ c.in-err-token.ensures.tells ∙ ap Some (sym p.2)); moves = rw p.1 tt; text = refl; bytes = refl }
 
-pub invariant-of-self : goal.invariant-of-self
-invariant-of-self c = (c.in-ok-token.ensures.within.1, tt)
+pub invariant_of-self : goal.invariant_of-self
+invariant_of-self c = (c.in-ok-token.ensures.within.1, tt)
 
 pub returns : goal.returns
 returns c =

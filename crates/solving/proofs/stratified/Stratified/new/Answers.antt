@@ -12,8 +12,8 @@ use Rattle.solving.proofs.stratified.Stratified.new.Goals as goal
 pub rank-levels-requires : goal.rank-levels-requires
 rank-levels-requires g c = (search rules, (search rules, (subst (λ rules. HeadsBelow rules g.row.N) (sym c.rules.ensures) (program_heads g.row.N (rules_of c.args.program) c.args.program.kept), c.clear-none.ensures)))
 
-pub invariant-of-result : goal.invariant-of-result
-invariant-of-result g c =
+pub invariant_of-result : goal.invariant_of-result
+invariant_of-result g c =
     let rules = rules_of c.args.program in
     let below = program_heads g.row.N rules c.args.program.kept in
     let all : all_fit g.row.N rules ≡ true = (and_parts (leb (length rules) 256) _ c.args.program.kept).1 in
