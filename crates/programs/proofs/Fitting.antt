@@ -1,5 +1,5 @@
 -- The limits of rules: how they are made and taken apart, a larger number of atoms, one atom or rule more.
-use Rattle.std.proofs.Common.{◌≡◌, ℕ, ◌+◌, ◌<◌, ◌≤◌, true, ◌&&◌, ltb, leb, List, [], ◌∷◌, ◌++◌, length, refl, arith}
+use Rattle.std.proofs.Common.{◌≡◌, ℕ, ◌+◌, ◌<◌, ◌≤◌, true, ltb, leb, List, [], ◌∷◌, ◌++◌, length, refl, arith}
 use Rattle.std.proofs.lemmas.Bool.{and_parts, and_from, lt-ltb, ltb-true, le-leb, leb-true}
 use Rattle.game.specs.Rules.{Head, none, atom, Rule}
 use Rattle.programs.specs.Limits.{all_below, head_below, rule_fits, all_fit, fits}

@@ -1,5 +1,5 @@
 -- What is written piece by piece: nothing yet, one byte, one text after another.
-use Rattle.std.proofs.Common.{ℕ, ◌+◌, ◌<◌, ◌≤◌, List, [], ◌∷◌, ◌++◌, length, take, drop, set, refl, append_assoc, append-nil, arith, length-append, length-set}
+use Rattle.std.proofs.Common.{ℕ, ◌+◌, ◌<◌, ◌≤◌, List, [], ◌∷◌, ◌++◌, length, take, set, refl, append_assoc, append-nil, arith, length-append, length-set}
 use Rattle.std.proofs.lemmas.List.{drop-drop, drop-set-lt, take_more_set}
 use Rattle.refusals.specs.Line.{Put}
 

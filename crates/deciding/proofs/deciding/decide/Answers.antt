@@ -10,11 +10,11 @@ use Rattle.deciding.specs.Decided.{Decided, not_taken, reports, Fits}
 use Rattle.deciding.proofs.Asking.{has_texts, shows, shown_is, reported_fits}
 use Rattle.deciding.proofs.deciding.decide.Goals as goal
 
-pub returns-in-err-load : goal.returns-in-err-load
-returns-in-err-load c =
+pub returns-in_err-load : goal.returns-in_err-load
+returns-in_err-load c =
     let p = err_from_is_err_and c.from-residual.result c.from-residual.ensures.1 in
-    let e = c.in-err-load.field-0.0 in
-    let (memory, goes) = c.in-err-load.ensures in
+    let e = c.in_err-load.field-0.0 in
+    let (memory, goes) = c.in_err-load.ensures in
     record {
       decided =
           subst (λ r. Decided c.args.side c.args.plan.now c.args.faults.now c.args.site.now c.args.buffer.now c.args.buffer.now r) (sym (p.1 ∙ ap Err p.2))
@@ -24,13 +24,13 @@ returns-in-err-load c =
 
 pub unreachable-requires : goal.unreachable-requires
 unreachable-requires c =
-    let (memory, goes) = c.in-ok-load.ensures in
+    let (memory, goes) = c.in_ok-load.ensures in
     let (t, has) = has_texts memory c.args.side c.args.plan.now c.args.faults.now c.args.site.now _ (book_of c.load.new.self) done goes in
     shows (book_of c.load.new.self) (book_of c.ask.new.self) (refused (refusal_model c.in-default.field-0)) c.in-default.ensures.goes t has
 
 pub returns : goal.returns
 returns c =
-    let (memory, goes) = c.in-ok-load.ensures in
+    let (memory, goes) = c.in_ok-load.ensures in
     let b = book_of c.load.new.self in
     let b' = book_of c.ask.new.self in
     let a = c.in-Ok.told in
@@ -38,9 +38,9 @@ returns c =
     let (v-is, r-is) = shows b b' (told (verdict_model a.verdict) (coherence_model a.coherence) a.pairs a.struck c.ask.new.row.marks) asked in
     record {
       decided =
-          reports memory b b' (verdict_model a.verdict) (coherence_model a.coherence) a.pairs a.struck c.ask.new.row.marks c.plan-shown-shown.result c.report.result
+          reports memory b b' (verdict_model a.verdict) (coherence_model a.coherence) a.pairs a.struck c.ask.new.row.marks c.plan_shown-shown.result c.report.result
           (subst (λ z. Goes (load memory c.args.side c.args.plan.now c.args.faults.now c.args.site.now) z done b) c.new_book.ensures.empty goes) asked
-          (shown_is b'.shown (row_shown c.plan-shown-shown.result) (verdict_model a.verdict) c.ask.new.row.marks v-is r-is c.plan-shown-shown.ensures)
-          (subst (λ x. Reported c.args.plan.now c.args.faults.now c.args.site.now x c.plan-shown-shown.result c.args.buffer.now c.report.new.buffer c.report.result) c.is-coherent.ensures c.report.ensures);
-      fits = reported_fits c.args.plan.now c.args.faults.now c.args.site.now c.is-coherent.result c.plan-shown-shown.result c.args.buffer.now c.report.new.buffer c.report.result c.report.ensures;
+          (shown_is b'.shown (row_shown c.plan_shown-shown.result) (verdict_model a.verdict) c.ask.new.row.marks v-is r-is c.plan_shown-shown.ensures)
+          (subst (λ x. Reported c.args.plan.now c.args.faults.now c.args.site.now x c.plan_shown-shown.result c.args.buffer.now c.report.new.buffer c.report.result) c.is_coherent.ensures c.report.ensures);
+      fits = reported_fits c.args.plan.now c.args.faults.now c.args.site.now c.is_coherent.result c.plan_shown-shown.result c.args.buffer.now c.report.new.buffer c.report.result c.report.ensures;
     }

@@ -10,12 +10,12 @@ returns-in-default c =
     goes_from_start 96 96 (rules_of c.args.program.now) c.args.given.now.marks c.args.heads.now.marks c.requires
     c.union.result.marks c.union.ensures (from c.args.earlier) (ap from c.in-default.is) c.search.result c.search.ensures
 
-pub returns-then-not-is-answer-set : goal.returns-then-not-is-answer-set
-returns-then-not-is-answer-set c =
+pub returns-then-not-is_answer_set : goal.returns-then-not-is_answer_set
+returns-then-not-is_answer_set c =
     goes_unlisted 96 (rules_of c.args.program.now) c.args.given.now.marks (from c.args.earlier) c.in-Some.entry.now.marks (ap from c.in-Some.is)
-    (not_from_Decides c.is-answer-set.result c.is-answer-set.ensures c.if-not-is-answer-set.true)
+    (not_from_Decides c.is_answer_set.result c.is_answer_set.ensures c.if-not-is_answer_set.true)
 
 pub returns : goal.returns
 returns c =
     goes_on 96 (rules_of c.args.program.now) c.args.given.now.marks (from c.args.earlier) c.in-Some.entry.now.marks (ap from c.in-Some.is)
-    (c.is-answer-set.ensures.0 c.if-not-is-answer-set.false) c.after.result c.after.ensures
+    (c.is_answer_set.ensures.0 c.if-not-is_answer_set.false) c.after.result c.after.ensures

@@ -13,22 +13,22 @@ loop-set-init g c = upward_start (rules_of c.args.program.now) c.args.given.now.
 pub raised-requires : goal.raised-requires
 raised-requires g c = let of = c.loop-set.invariant.of in search rules
 
-pub returns-in-err-set : goal.returns-in-err-set
-returns-in-err-set g c =
+pub returns-in_err-set : goal.returns-in_err-set
+returns-in_err-set g c =
     let rules = rules_of c.args.program.now in
     let given = c.args.given.now.marks in
     let sets : (z : Row) → AnswerSet rules given z → SetOf c.args.heads.now.marks z = answer_set_of g.row.N rules given c.args.heads.now.marks c.args.given.now.wide c.requires.0 in
-    rw c.from-residual.ensures (upward_end c.loop-set.invariant sets (not_from_Decides c.is-answer-set.result c.is-answer-set.ensures c.loop-set-test.true) c.in-err-set.ensures)
+    rw c.from-residual.ensures (upward_end c.loop-set.invariant sets (not_from_Decides c.is_answer_set.result c.is_answer_set.ensures c.loop-set-test.true) c.in_err-set.ensures)
 
 pub loop-set-smaller : goal.loop-set-smaller
-loop-set-smaller g c = rises g.row.N c.loop-set.set.marks c.in-ok-set.set.marks c.loop-set.set.wide c.in-ok-set.set.wide c.in-ok-set.ensures.above
+loop-set-smaller g c = rises g.row.N c.loop-set.set.marks c.in_ok-set.set.marks c.loop-set.set.wide c.in_ok-set.set.wide c.in_ok-set.ensures.above
 
 pub loop-set-preserved : goal.loop-set-preserved
 loop-set-preserved g c =
     let rules = rules_of c.args.program.now in
     let given = c.args.given.now.marks in
     let sets : (z : Row) → AnswerSet rules given z → SetOf c.args.heads.now.marks z = answer_set_of g.row.N rules given c.args.heads.now.marks c.args.given.now.wide c.requires.0 in
-    upward_next c.loop-set.invariant sets (not_from_Decides c.is-answer-set.result c.is-answer-set.ensures c.loop-set-test.true) c.in-ok-set.set.marks c.in-ok-set.ensures
+    upward_next c.loop-set.invariant sets (not_from_Decides c.is_answer_set.result c.is_answer_set.ensures c.loop-set-test.true) c.in_ok-set.set.marks c.in_ok-set.ensures
 
 pub returns : goal.returns
-returns g c = first_here c.loop-set.invariant (c.is-answer-set.ensures.0 c.loop-set-test.false)
+returns g c = first_here c.loop-set.invariant (c.is_answer_set.ensures.0 c.loop-set-test.false)

@@ -3,7 +3,7 @@ use Rattle.reading.specs.Tables.{standings}
 use Rattle.listing_text.specs.Lines.{names_from, dotted}
 use Rattle.listing_text.proofs.Naming.{name_here, name_on, names_done}
 use Rattle.listing_text.proofs.lines.add_atoms.Goals as goal
-use Rattle.listing_text.proofs.lines.add_atoms.Goals.{then-at+in-ok-add-atom, else-at}
+use Rattle.listing_text.proofs.lines.add_atoms.Goals.{then-at+in_ok-add_atom, else-at}
 
 pub loop-i-preserved : goal.loop-i-preserved
 loop-i-preserved c =
@@ -16,9 +16,9 @@ loop-i-preserved c =
     let here = name_here lead entries i marks _ c.loop-i-test.true in
     let on = name_on lead entries i marks c.loop-i-test.true in
     elim c.if-at.branch [
-      | then-at+in-ok-add-atom w ↦
+      | then-at+in_ok-add_atom w ↦
           (λ k. vec_items (w.out-is k) ++ rest (w.lead-is k).now)
-          ∙ (ap (λ l. l ++ rest (codes " ")) w.in-ok-add-atom.ensures ∙ (append_assoc was _ (rest (codes " ")) ∙ (sym (ap (λ l. was ++ l) (here (sym c.at.ensures ∙ w.if-at.true))) ∙ c.loop-i.invariant)))
+          ∙ (ap (λ l. l ++ rest (codes " ")) w.in_ok-add_atom.ensures ∙ (append_assoc was _ (rest (codes " ")) ∙ (sym (ap (λ l. was ++ l) (here (sym c.at.ensures ∙ w.if-at.true))) ∙ c.loop-i.invariant)))
       | else-at w ↦
           (λ k. vec_items (w.out-is k) ++ rest (w.lead-is k).now)
           ∙ (sym (ap (λ l. was ++ l) (on (sym c.at.ensures ∙ w.if-at.false))) ∙ c.loop-i.invariant)

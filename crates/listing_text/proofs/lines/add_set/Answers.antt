@@ -7,5 +7,5 @@ pub returns : goal.returns
 returns c =
     let was = vec_items c.args.out.now in
     let marks = c.args.set.now.marks in
-    c.in-ok-extend-from-slice.ensures.items
-    ∙ (ap (λ l. l ++ codes "\n") c.in-ok-add-atoms.ensures ∙ (append_assoc was _ (codes "\n") ∙ ap (λ es. was ++ (dotted [] (names_from 0 (standings es) marks) ++ codes "\n")) c.entries.ensures))
+    c.in_ok-extend_from_slice.ensures.items
+    ∙ (ap (λ l. l ++ codes "\n") c.in_ok-add_atoms.ensures ∙ (append_assoc was _ (codes "\n") ∙ ap (λ es. was ++ (dotted [] (names_from 0 (standings es) marks) ++ codes "\n")) c.entries.ensures))

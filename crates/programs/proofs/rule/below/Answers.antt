@@ -1,4 +1,4 @@
-use Rattle.std.proofs.Common.{false, ◌&&◌, sym, ap, arith}
+use Rattle.std.proofs.Common.{false, ◌&&◌, ap, arith}
 use Rattle.std.proofs.lemmas.Bool.{lt-ltb, le-ltb}
 use Rattle.programs.specs.Limits.{all_below}
 use Rattle.programs.proofs.Scans.{stops, goes, ends}

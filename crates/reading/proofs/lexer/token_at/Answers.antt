@@ -5,13 +5,13 @@ use Rattle.reading.specs.Tokens.{TellsAt, lexical_fault}
 use Rattle.reading.proofs.Lexing.{front_at, front_else}
 use Rattle.reading.proofs.lexer.token_at.Goals as goal
 
-pub returns-then-not-is-small : goal.returns-then-not-is-small
-returns-then-not-is-small c =
+pub returns-then-not-is_small : goal.returns-then-not-is_small
+returns-then-not-is_small c =
     let bs = c.args.bytes.now in
     let i = c.args.at in
     let byte = c.from.ensures in
     let other : front i (drop i bs) ≡ no_token i =
-    front_else bs i c.requires (λ e. omega (arith, byte)) (λ e. omega (arith, byte)) (λ e. omega (arith, byte)) ∙ ap (λ b. cond b (word i (suc (run (drop (i + 1) bs))) (drop i bs)) (no_token i)) (ap small (sym byte) ∙ sym c.if-not-is-small.ensures) in
+    front_else bs i c.requires (λ e. omega (arith, byte)) (λ e. omega (arith, byte)) (λ e. omega (arith, byte)) ∙ ap (λ b. cond b (word i (suc (run (drop (i + 1) bs))) (drop i bs)) (no_token i)) (ap small (sym byte) ∙ sym c.if-not-is_small.ensures) in
     record { tells = ap (lexical_fault c.args.text) other; within = tt }
 
 pub returns-in-44 : goal.returns-in-44
@@ -23,13 +23,13 @@ returns-in-46 c = record { tells = front_at c.args.bytes.now c.args.at c.require
 pub returns-in-58 : goal.returns-in-58
 returns-in-58 c =
     let at-colon = front_at c.args.bytes.now c.args.at c.requires 58 (sym c.from.ensures ∙ c.in-58.is) in
-    record { tells = subst (λ l. TellsAt c.args.text c.args.at l c.arrow-at.result) (sym at-colon) c.arrow-at.ensures.tells; within = c.arrow-at.ensures.within }
+    record { tells = subst (λ l. TellsAt c.args.text c.args.at l c.arrow_at.result) (sym at-colon) c.arrow_at.ensures.tells; within = c.arrow_at.ensures.within }
 
-pub returns-else-not-is-small : goal.returns-else-not-is-small
-returns-else-not-is-small c =
+pub returns-else-not-is_small : goal.returns-else-not-is_small
+returns-else-not-is_small c =
     let bs = c.args.bytes.now in
     let i = c.args.at in
     let byte = c.from.ensures in
     let at-word : front i (drop i bs) ≡ word i (suc (run (drop (i + 1) bs))) (drop i bs) =
-    front_else bs i c.requires (λ e. omega (arith, byte)) (λ e. omega (arith, byte)) (λ e. omega (arith, byte)) ∙ ap (λ b. cond b (word i (suc (run (drop (i + 1) bs))) (drop i bs)) (no_token i)) (ap small (sym byte) ∙ sym c.if-not-is-small.ensures) in
-    record { tells = subst (λ l. TellsAt c.args.text i l c.word-at.result) (sym at-word) c.word-at.ensures.tells; within = c.word-at.ensures.within }
+    front_else bs i c.requires (λ e. omega (arith, byte)) (λ e. omega (arith, byte)) (λ e. omega (arith, byte)) ∙ ap (λ b. cond b (word i (suc (run (drop (i + 1) bs))) (drop i bs)) (no_token i)) (ap small (sym byte) ∙ sym c.if-not-is_small.ensures) in
+    record { tells = subst (λ l. TellsAt c.args.text i l c.word_at.result) (sym at-word) c.word_at.ensures.tells; within = c.word_at.ensures.within }

@@ -10,11 +10,11 @@ pub returns : goal.returns
 returns c =
     let rest = drop c.args.at c.args.bytes.now in
     let n = suc (run (drop (c.args.at + 1) c.args.bytes.now)) in
-    let ends = c.skip-name-after.ensures.value in
-    let size : c.skip-name-after.result - c.args.at ≡ n = omega (arith, ends) in
-    let other : bytes_eq (take (c.skip-name-after.result - c.args.at) rest) (codes "not") ≡ false =
+    let ends = c.skip_name-after.ensures.value in
+    let size : c.skip_name-after.result - c.args.at ≡ n = omega (arith, ends) in
+    let other : bytes_eq (take (c.skip_name-after.result - c.args.at) rest) (codes "not") ≡ false =
     same_from_decides _ _ (bytes_eq-Decides _ _) (slice_eq-Decides Decides-eqb _ _ _ c.eq.ensures) ∙ c.if-eq.false in
     record {
-      tells = word_name c.args.at n c.skip-name-after.result rest (omega (arith, ends)) (omega (arith, size, c.if-after-at-gt-LONGEST-NAME.false)) (ap (λ k. bytes_eq (take k rest) (codes "not")) (sym size) ∙ other);
-      within = (omega arith, c.skip-name-after.ensures.within);
+      tells = word_name c.args.at n c.skip_name-after.result rest (omega (arith, ends)) (omega (arith, size, c.if-after-at-gt-LONGEST-NAME.false)) (ap (λ k. bytes_eq (take k rest) (codes "not")) (sym size) ∙ other);
+      within = (omega arith, c.skip_name-after.ensures.within);
     }

@@ -22,14 +22,14 @@ loop-draft-init c =
       λ r h. subst (λ at. Reads c.new-draft.result.text c.args.bytes.now at (state_of c.new-draft.result) r) c.new-lexer.ensures.at h,
     )
 
-pub returns-in-err-spot : goal.returns-in-err-spot
-returns-in-err-spot c =
+pub returns-in_err-spot : goal.returns-in_err-spot
+returns-in_err-spot c =
     let p = err_from_is_err_and c.from-residual.result c.from-residual.ensures.1 in
     let text = c.args.bytes.now in
     let t = c.new-draft.result.text in
     let lexer = c.loop-draft.lexer in
     let fault : lexical_fault t (lexed text lexer.at) ≡ Some p.0 =
-    ap (λ u. lexical_fault u (lexed text lexer.at)) (sym c.loop-draft.invariant.0) ∙ ap (λ bs. lexical_fault lexer.text (lexed bs lexer.at)) (sym c.loop-draft.invariant.1) ∙ c.in-err-spot.ensures.tells ∙ ap Some (sym p.2) in
+    ap (λ u. lexical_fault u (lexed text lexer.at)) (sym c.loop-draft.invariant.0) ∙ ap (λ bs. lexical_fault lexer.text (lexed bs lexer.at)) (sym c.loop-draft.invariant.1) ∙ c.in_err-spot.ensures.tells ∙ ap Some (sym p.2) in
     let whole = as_fresh c.args.text text (standings_of c.args.atoms) t (state_of c.new-draft.result) (Err p.0) c.new-draft.ensures.text c.new-draft.ensures.state (c.loop-draft.invariant.4 (Err p.0) (no_word p.0 fault)) in
     rw p.1 (inr (read_short c.args.text text (standings_of c.args.atoms) (Err p.0) c.if-bytes-gt-LONGEST-TEXT.false whole))
 
@@ -40,8 +40,8 @@ loop-draft-preserved c =
     let d = state_of c.loop-draft.draft in
     let d' = state_of c.take.new.self in
     let w = word_of c.in-Some.spot.token in
-    let next = ap (λ bs. lexed bs at) (sym c.loop-draft.invariant.1) ∙ subst (λ o. Tells c.loop-draft.lexer.text (lexed c.loop-draft.lexer.bytes.now at) c.next.new.self.at (Ok o)) c.in-Some.is c.in-ok-spot.ensures.tells in
-    let took : step c.new-draft.result.text c.in-Some.spot.at d w ≡ Ok d' = ap (λ t. step t c.in-Some.spot.at d w) (sym c.loop-draft.invariant.2) ∙ c.in-ok-take.ensures.state in (
+    let next = ap (λ bs. lexed bs at) (sym c.loop-draft.invariant.1) ∙ subst (λ o. Tells c.loop-draft.lexer.text (lexed c.loop-draft.lexer.bytes.now at) c.next.new.self.at (Ok o)) c.in-Some.is c.in_ok-spot.ensures.tells in
+    let took : step c.new-draft.result.text c.in-Some.spot.at d w ≡ Ok d' = ap (λ t. step t c.in-Some.spot.at d w) (sym c.loop-draft.invariant.2) ∙ c.in_ok-take.ensures.state in (
       c.next.ensures.text ∙ c.loop-draft.invariant.0,
       ap (λ b. b.now) c.next.ensures.bytes ∙ c.loop-draft.invariant.1,
       c.take.ensures.text ∙ c.loop-draft.invariant.2,
@@ -49,22 +49,22 @@ loop-draft-preserved c =
       λ r h. c.loop-draft.invariant.4 r (goes c.in-Some.spot.at c.next.new.self.at w d' next took h),
     )
 
-pub returns-in-err-take : goal.returns-in-err-take
-returns-in-err-take c =
-    let p = err_from_is_err_and c.from-residual-in-err-take.result c.from-residual-in-err-take.ensures.1 in
+pub returns-in_err-take : goal.returns-in_err-take
+returns-in_err-take c =
+    let p = err_from_is_err_and c.from-residual-in_err-take.result c.from-residual-in_err-take.ensures.1 in
     let text = c.args.bytes.now in
     let t = c.new-draft.result.text in
     let at = c.loop-draft.lexer.at in
     let d = state_of c.loop-draft.draft in
     let w = word_of c.in-Some.spot.token in
-    let next = ap (λ bs. lexed bs at) (sym c.loop-draft.invariant.1) ∙ subst (λ o. Tells c.loop-draft.lexer.text (lexed c.loop-draft.lexer.bytes.now at) c.next.new.self.at (Ok o)) c.in-Some.is c.in-ok-spot.ensures.tells in
+    let next = ap (λ bs. lexed bs at) (sym c.loop-draft.invariant.1) ∙ subst (λ o. Tells c.loop-draft.lexer.text (lexed c.loop-draft.lexer.bytes.now at) c.next.new.self.at (Ok o)) c.in-Some.is c.in_ok-spot.ensures.tells in
     rw p.1
     (⊎_elim (λ none. inl (p.2 ∙ none, c.if-bytes-gt-LONGEST-TEXT.false))
     (λ fault.
     let step-fault : step t c.in-Some.spot.at d w ≡ Err p.0 = ap (λ u. step u c.in-Some.spot.at d w) (sym c.loop-draft.invariant.2) ∙ fault ∙ ap Err (sym p.2) in
     let whole = as_fresh c.args.text text (standings_of c.args.atoms) t (state_of c.new-draft.result) (Err p.0) c.new-draft.ensures.text c.new-draft.ensures.state (c.loop-draft.invariant.4 (Err p.0) (refused c.in-Some.spot.at c.next.new.self.at w p.0 next step-fault)) in
     inr (read_short c.args.text text (standings_of c.args.atoms) (Err p.0) c.if-bytes-gt-LONGEST-TEXT.false whole))
-    c.in-err-take.ensures.state)
+    c.in_err-take.ensures.state)
 
 pub returns : goal.returns
 returns c =
@@ -72,7 +72,7 @@ returns c =
     let t = c.new-draft.result.text in
     let at = c.loop-draft.lexer.at in
     let d = state_of c.loop-draft.draft in
-    let next = ap (λ bs. lexed bs at) (sym c.loop-draft.invariant.1) ∙ subst (λ o. Tells c.loop-draft.lexer.text (lexed c.loop-draft.lexer.bytes.now at) c.next.new.self.at (Ok o)) c.in-default.is c.in-ok-spot.ensures.tells in
+    let next = ap (λ bs. lexed bs at) (sym c.loop-draft.invariant.1) ∙ subst (λ o. Tells c.loop-draft.lexer.text (lexed c.loop-draft.lexer.bytes.now at) c.next.new.self.at (Ok o)) c.in-default.is c.in_ok-spot.ensures.tells in
     let before = standings_of c.args.atoms in
     let whole = as_fresh c.args.text text before t (state_of c.new-draft.result) (ended t (length text) d) c.new-draft.ensures.text c.new-draft.ensures.state (c.loop-draft.invariant.4 (ended t (length text) d) (ends next)) in
     let shown = subst (λ u. Finishes (ended u (length text) d) c.finish.result) c.loop-draft.invariant.2 c.finish.ensures in

@@ -33,16 +33,16 @@ front-is t c =
 room : {n at last : ℕ} {xs ys : List ℕ} → Front n at last xs ys → last + 1 ≡ at + length (decimal n)
 room f = omega (arith, simp length-append at (ap length f.whole))
 
-pub write-number-last-requires : goal.write-number-last-requires
-write-number-last-requires t c =
+pub write_number-last-requires : goal.write_number-last-requires
+write_number-last-requires t c =
     let e = decimal_step c.args.number (omega arith) (omega arith) in
     (omega arith, omega (arith, simp length-append at (ap length e)))
 
 pub bounds-out-last : goal.bounds-out-last
 bounds-out-last t c = omega (arith, room (front-is t c))
 
-pub overflow-add-result : goal.overflow-add-result
-overflow-add-result t c = omega (arith, room (front-is t (goal.at.overflow-add-result t c).Joined-number-lt10))
+pub overflow_add-result : goal.overflow_add-result
+overflow_add-result t c = omega (arith, room (front-is t (goal.at.overflow_add-result t c).Joined-number-lt10))
 
 pub returns : goal.returns
 returns t c =

@@ -25,4 +25,4 @@ returns g c =
     Decides-like _
     (λ whole. accepted trial x c.least.result.marks c.union-all.ensures c.least.result.wide c.least.ensures (sym c.union.ensures ∙ c.same.ensures.0 c.if-not-same.false) (c.same-2.ensures.0 c.if-not-same-2.false) whole)
     (λ ans. unbroken trial x c.least.result.marks c.union-all.ensures c.least.result.wide c.least.ensures ans)
-    (Decides-not c.breaks-constraint.result c.breaks-constraint.ensures)
+    (Decides-not c.breaks_constraint.result c.breaks_constraint.ensures)

@@ -11,8 +11,8 @@ use Rattle.solving.proofs.levels.rank.Goals as goal
 pub loop-atom-init : goal.loop-atom-init
 loop-atom-init g c = (length-replicate g.row.N 0, λ a less. absurd (omega arith))
 
-pub overflow-sub-of : goal.overflow-sub-of
-overflow-sub-of g c = omega (arith, c.count.ensures, marked_length c.reach.result.marks, c.reach.result.wide)
+pub overflow_sub-of : goal.overflow_sub-of
+overflow_sub-of g c = omega (arith, c.count.ensures, marked_length c.reach.result.marks, c.reach.result.wide)
 
 pub loop-atom-preserved : goal.loop-atom-preserved
 loop-atom-preserved g c =

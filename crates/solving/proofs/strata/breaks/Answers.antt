@@ -17,7 +17,7 @@ returns-in-Atom g c =
     let rules = models c.args.rules.now in
     let r = model c.args.rule.now in
     let reached = subst (λ a. Reached rules a c.reach-reached.result.marks) c.from.ensures c.reach-reached.ensures in
-    Decides-at c.some-in.result (any_in c.reach-reached.result.marks r.negated) (c.some-in.ensures ∙ ap (any_in c.reach-reached.result.marks) c.as-slice.ensures.value)
+    Decides-at c.some_in.result (any_in c.reach-reached.result.marks r.negated) (c.some_in.ensures ∙ ap (any_in c.reach-reached.result.marks) c.as_slice.ensures.value)
     (breaks_decide rules r c.in-Atom.head c.reach-reached.result.marks (ap head_model c.in-Atom.is) reached)
 
 pub reach-reached-requires : goal.reach-reached-requires

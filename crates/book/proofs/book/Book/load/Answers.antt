@@ -6,14 +6,14 @@ use Rattle.book.specs.Books.{book_of, LoadsTo}
 use Rattle.book.proofs.Calls.{load_refusal}
 use Rattle.book.proofs.book.Book.load.Goals as goal
 
-pub returns-in-err-open : goal.returns-in-err-open
-returns-in-err-open c =
+pub returns-in_err-open : goal.returns-in_err-open
+returns-in_err-open c =
     let p = err_from_is_err_and c.from-residual.result c.from-residual.ensures.1 in
     let b = book_of c.args.self.now in
     subst (λ r. LoadsTo c.args.side c.args.plan.now c.args.faults.now c.args.site.now b r b) (sym (p.1 ∙ ap Err p.2))
-    (load_refusal c.args.side c.args.plan.now c.args.faults.now c.args.site.now b c.in-err-open.field-0.0 c.in-err-open.ensures)
+    (load_refusal c.args.side c.args.plan.now c.args.faults.now c.args.site.now b c.in_err-open.field-0.0 c.in_err-open.ensures)
 
 pub returns : goal.returns
 returns c =
-    let (x, l, is) = c.in-ok-open.ensures in
+    let (x, l, is) = c.in_ok-open.ensures in
     (true, subst (λ (b : runs.Book). Goes (load true c.args.side c.args.plan.now c.args.faults.now c.args.site.now) (book_of c.args.self.now) done b) (sym is) (loads x l))

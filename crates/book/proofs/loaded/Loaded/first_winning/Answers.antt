@@ -18,8 +18,8 @@ following-requires g c =
     let plans = rules_of c.args.self.now.plan in
     (subst (λ (n : Row). Taken 96 m.most plans n) (sym c.clear-nothing.ensures) c.requires.0.plans, subst (λ (n : Row). Listed (m.order plans n) (on_from c.loop-plan.earlier)) (sym c.clear-nothing.ensures) c.loop-plan.invariant.0)
 
-pub first-beating-requires : goal.first-beating-requires
-first-beating-requires g c =
+pub first_beating-requires : goal.first_beating-requires
+first_beating-requires g c =
     let m = g.F.Finder.meaning c.args.finder.now in
     let t = texts_from c.args.self.now in
     let plans = rules_of c.args.self.now.plan in
@@ -50,11 +50,11 @@ returns-in-None g c =
     let x = c.in-Some.plan.marks in
     let (ys, found) = c.in-Some.ensures in
     let rest = subst (λ (n : Row). Rest (m.order plans n) at (x ∷ ys)) c.clear-nothing.ensures found in
-    let passed = subst (λ ps. Passed t struck (pairs ps) x false) c.as-slice.ensures.value c.if-not-passes-over.ensures in
+    let passed = subst (λ ps. Passed t struck (pairs ps) x false) c.as_slice.ensures.value c.if-not-passes_over.ensures in
     (wins t struck replies xs s₀ (lists_differ lists) at x ys rest s c.loop-plan.invariant.1 passed.0 passed.1 c.in-None.ensures, c.loop-plan.invariant.2)
 
-pub loop-plan-smaller-in-Some-first-beating : goal.loop-plan-smaller-in-Some-first-beating
-loop-plan-smaller-in-Some-first-beating g c =
+pub loop-plan-smaller-in-Some-first_beating : goal.loop-plan-smaller-in-Some-first_beating
+loop-plan-smaller-in-Some-first_beating g c =
     let m = g.F.Finder.meaning c.args.finder.now in
     let t = texts_from c.args.self.now in
     let plans = rules_of c.args.self.now.plan in
@@ -70,8 +70,8 @@ loop-plan-smaller-in-Some-first-beating g c =
     let rest = subst (λ (n : Row). Rest (m.order plans n) at (x ∷ ys)) c.clear-nothing.ensures found in
     fewer t struck replies xs s₀ (lists_differ lists) at x ys rest s c.loop-plan.invariant.1
 
-pub loop-plan-preserved-in-Some-first-beating : goal.loop-plan-preserved-in-Some-first-beating
-loop-plan-preserved-in-Some-first-beating g c =
+pub loop-plan-preserved-in-Some-first_beating : goal.loop-plan-preserved-in-Some-first_beating
+loop-plan-preserved-in-Some-first_beating g c =
     let m = g.F.Finder.meaning c.args.finder.now in
     let t = texts_from c.args.self.now in
     let plans = rules_of c.args.self.now.plan in
@@ -85,8 +85,8 @@ loop-plan-preserved-in-Some-first-beating g c =
     let x = c.in-Some.plan.marks in
     let (ys, found) = c.in-Some.ensures in
     let rest = subst (λ (n : Row). Rest (m.order plans n) at (x ∷ ys)) c.clear-nothing.ensures found in
-    let passed = subst (λ ps. Passed t struck (pairs ps) x false) c.as-slice.ensures.value c.if-not-passes-over.ensures in
-    (entry_listed xs (lists_differ lists) at x ys rest, notes t struck replies xs s₀ (lists_differ lists) at x ys rest s c.loop-plan.invariant.1 passed.0 passed.1 c.in-Some-first-beating.reply.marks c.in-Some-first-beating.ensures (pairs (vec_items c.note.new.sheet)) c.note.ensures.0, c.note.ensures.1 ∙ c.loop-plan.invariant.2)
+    let passed = subst (λ ps. Passed t struck (pairs ps) x false) c.as_slice.ensures.value c.if-not-passes_over.ensures in
+    (entry_listed xs (lists_differ lists) at x ys rest, notes t struck replies xs s₀ (lists_differ lists) at x ys rest s c.loop-plan.invariant.1 passed.0 passed.1 c.in-Some-first_beating.reply.marks c.in-Some-first_beating.ensures (pairs (vec_items c.note.new.sheet)) c.note.ensures.0, c.note.ensures.1 ∙ c.loop-plan.invariant.2)
 
 pub loop-plan-smaller : goal.loop-plan-smaller
 loop-plan-smaller g c =
@@ -120,7 +120,7 @@ loop-plan-preserved g c =
     let x = c.in-Some.plan.marks in
     let (ys, found) = c.in-Some.ensures in
     let rest = subst (λ (n : Row). Rest (m.order plans n) at (x ∷ ys)) c.clear-nothing.ensures found in
-    let passed = subst (λ ps. Passed t struck (pairs ps) x true) c.as-slice.ensures.value c.if-not-passes-over.ensures in
+    let passed = subst (λ ps. Passed t struck (pairs ps) x true) c.as_slice.ensures.value c.if-not-passes_over.ensures in
     (entry_listed xs (lists_differ lists) at x ys rest, passes t struck replies xs s₀ (lists_differ lists) at x ys rest s c.loop-plan.invariant.1 passed, c.loop-plan.invariant.2)
 
 pub returns : goal.returns

@@ -11,16 +11,16 @@ use Rattle.book.proofs.open.Open.entry.Goals as goal
 pub returns-then-place-len : goal.returns-then-place-len
 returns-then-place-len c =
     let o = c.args.self.now in
-    let p = c.index-as-slice-place.result in
+    let p = c.index-as_slice-place.result in
     subst (λ k. Goes (look k c.args.place) (open_book o) (wrote p.plan.marks p.reply.marks) (open_book o)) (sym c.if-kind-eq1.true)
-    (look_pair (open_book o) (texts_from o.loaded) refl c.args.place (vec_items o.sheet) p refl (omega (arith, c.if-place-len.true, c.len.ensures, o.sheet.ok.0)) (c.index-as-slice-place.is ∙ ap (λ xs. get_or xs c.args.place p) c.as-slice.ensures.value))
+    (look_pair (open_book o) (texts_from o.loaded) refl c.args.place (vec_items o.sheet) p refl (omega (arith, c.if-place-len.true, c.len.ensures, o.sheet.ok.0)) (c.index-as_slice-place.is ∙ ap (λ xs. get_or xs c.args.place p) c.as_slice.ensures.value))
 
 pub returns-then-place-len-2 : goal.returns-then-place-len-2
 returns-then-place-len-2 c =
     let o = c.args.self.now in
-    let r = c.index-as-slice-place-then-place-len-2.result in
+    let r = c.index-as_slice-place-then-place-len-2.result in
     subst (λ k. Goes (look k c.args.place) (open_book o) (wrote r.marks c.clear.result.marks) (open_book o)) (sym c.if-kind-eq2.true)
-    (look_struck (open_book o) (texts_from o.loaded) refl c.args.place (vec_items o.struck) r c.clear.result.marks refl c.clear.ensures (omega (arith, c.if-place-len-2.true, c.len-then-kind-eq2.ensures, o.struck.ok.0)) (c.index-as-slice-place-then-place-len-2.is ∙ ap (λ xs. get_or xs c.args.place r) c.as-slice-then-place-len-2.ensures.value))
+    (look_struck (open_book o) (texts_from o.loaded) refl c.args.place (vec_items o.struck) r c.clear.result.marks refl c.clear.ensures (omega (arith, c.if-place-len-2.true, c.len-then-kind-eq2.ensures, o.struck.ok.0)) (c.index-as_slice-place-then-place-len-2.is ∙ ap (λ xs. get_or xs c.args.place r) c.as_slice-then-place-len-2.ensures.value))
 
 pub returns : goal.returns
 returns c =

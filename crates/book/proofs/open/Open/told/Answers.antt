@@ -11,7 +11,7 @@ returns c =
     let o = c.args.self.now in
     record {
       verdict = c.verdict.ensures;
-      coherence = c.coherence.ensures ∙ ap (coherence_by (side_of o.loaded.side)) c.has-winner.ensures;
+      coherence = c.coherence.ensures ∙ ap (coherence_by (side_of o.loaded.side)) c.has_winner.ensures;
       pairs = omega (arith, c.len.ensures, o.sheet.ok.0, length-map (vec_items o.sheet) pair_of);
       struck = omega (arith, c.len-2.ensures, o.struck.ok.0, length-map (vec_items o.struck) (λ (r : code.Row 96). r.marks));
     }

@@ -8,9 +8,9 @@ pub invariant_of-result : goal.invariant_of-result
 invariant_of-result c =
     let o = c.args.self in
     let r = c.args.row in
-    (omega (arith, o.struck_room, c.push-reserved.ensures.capacity), (o.sheet_room, (∥∥₁_map o.kept (λ keeps. subst Keeps (sym (struck_book o.loaded o.struck c.push-reserved.new.self o.sheet o.shown r c.push-reserved.ensures.items)) (strike_keeps o.loaded o.struck o.sheet o.shown r c.requires.0 c.requires.1 keeps)), tt)))
+    (omega (arith, o.struck_room, c.push_reserved.ensures.capacity), (o.sheet_room, (∥∥₁_map o.kept (λ keeps. subst Keeps (sym (struck_book o.loaded o.struck c.push_reserved.new.self o.sheet o.shown r c.push_reserved.ensures.items)) (strike_keeps o.loaded o.struck o.sheet o.shown r c.requires.0 c.requires.1 keeps)), tt)))
 
 pub returns : goal.returns
 returns c =
     let o = c.args.self in
-    struck_book o.loaded o.struck c.push-reserved.new.self o.sheet o.shown c.args.row c.push-reserved.ensures.items
+    struck_book o.loaded o.struck c.push_reserved.new.self o.sheet o.shown c.args.row c.push_reserved.ensures.items

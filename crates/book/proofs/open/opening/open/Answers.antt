@@ -11,18 +11,18 @@ use Rattle.book.proofs.open.opening.open.Goals as goal
 
 pub loaded-requires : goal.loaded-requires
 loaded-requires c =
-    let x : Side × Three = (side_of c.in-ok-game.game.side, three_of c.in-ok-game.game.texts) in
-    let l = c.in-ok-game.ensures.gives in
+    let x : Side × Three = (side_of c.in_ok-game.game.side, three_of c.in_ok-game.game.texts) in
+    let l = c.in_ok-game.ensures.gives in
     (loads_readable c.args.side c.args.plan.now c.args.faults.now c.args.site.now x l, loads_stratified c.args.side c.args.plan.now c.args.faults.now c.args.site.now x l)
 
 pub invariant_of-result : goal.invariant_of-result
 invariant_of-result c =
-    let x : Side × Three = (side_of c.in-ok-game.game.side, three_of c.in-ok-game.game.texts) in
-    let l = c.in-ok-game.ensures.gives in
-    let is = opened_book c.loaded.result c.in-ok-struck.struck c.in-ok-sheet.sheet x c.loaded.ensures c.in-ok-struck.ensures.items c.in-ok-sheet.ensures.items in
-    (omega (arith, c.in-ok-struck.ensures.made.1), (omega (arith, c.in-ok-sheet.ensures.made.1), (∣ subst Keeps (sym is) (opened_keeps c.args.side c.args.plan.now c.args.faults.now c.args.site.now x l) ∣₁, tt)))
+    let x : Side × Three = (side_of c.in_ok-game.game.side, three_of c.in_ok-game.game.texts) in
+    let l = c.in_ok-game.ensures.gives in
+    let is = opened_book c.loaded.result c.in_ok-struck.struck c.in_ok-sheet.sheet x c.loaded.ensures c.in_ok-struck.ensures.items c.in_ok-sheet.ensures.items in
+    (omega (arith, c.in_ok-struck.ensures.made.1), (omega (arith, c.in_ok-sheet.ensures.made.1), (∣ subst Keeps (sym is) (opened_keeps c.args.side c.args.plan.now c.args.faults.now c.args.site.now x l) ∣₁, tt)))
 
 pub returns : goal.returns
 returns c =
-    let x : Side × Three = (side_of c.in-ok-game.game.side, three_of c.in-ok-game.game.texts) in
-    (x, c.in-ok-game.ensures.gives, opened_book c.loaded.result c.in-ok-struck.struck c.in-ok-sheet.sheet x c.loaded.ensures c.in-ok-struck.ensures.items c.in-ok-sheet.ensures.items)
+    let x : Side × Three = (side_of c.in_ok-game.game.side, three_of c.in_ok-game.game.texts) in
+    (x, c.in_ok-game.ensures.gives, opened_book c.loaded.result c.in_ok-struck.struck c.in_ok-sheet.sheet x c.loaded.ensures c.in_ok-struck.ensures.items c.in_ok-sheet.ensures.items)

@@ -5,19 +5,19 @@ use Rattle.finders.specs.Supplied.{branching}
 use Rattle.finders.proofs.Answering.{refused_answers, unlisted_answers, found_answers}
 use Rattle.finders.proofs.branching.BranchingFinder96.next.Goals as goal
 
-pub returns-in-err-heads : goal.returns-in-err-heads
-returns-in-err-heads c =
+pub returns-in_err-heads : goal.returns-in_err-heads
+returns-in_err-heads c =
     let p = err_from_is_err_and c.from-residual.result c.from-residual.ensures.1 in
     rw (p.1, p.2)
-    (refused_answers (branching 96) (rules_of c.args.program.now) c.args.given.now.marks (from c.args.earlier) c.args.row.now.marks c.in-err-heads.field-0.0 c.in-err-heads.ensures)
+    (refused_answers (branching 96) (rules_of c.args.program.now) c.args.given.now.marks (from c.args.earlier) c.args.row.now.marks c.in_err-heads.field-0.0 c.in_err-heads.ensures)
 
-pub returns-in-err-found : goal.returns-in-err-found
-returns-in-err-found c =
-    let p = err_from_is_err_and c.from-residual-in-err-found.result c.from-residual-in-err-found.ensures.1 in
+pub returns-in_err-found : goal.returns-in_err-found
+returns-in_err-found c =
+    let p = err_from_is_err_and c.from-residual-in_err-found.result c.from-residual-in_err-found.ensures.1 in
     rw (p.1, p.2)
-    (unlisted_answers (branching 96) (rules_of c.args.program.now) c.args.given.now.marks (from c.args.earlier) c.args.row.now.marks c.in-ok-heads.ensures.taken c.in-err-found.field-0.0 c.in-err-found.ensures)
+    (unlisted_answers (branching 96) (rules_of c.args.program.now) c.args.given.now.marks (from c.args.earlier) c.args.row.now.marks c.in_ok-heads.ensures.taken c.in_err-found.field-0.0 c.in_err-found.ensures)
 
 pub returns : goal.returns
 returns c =
-    found_answers (branching 96) (rules_of c.args.program.now) c.args.given.now.marks (from c.args.earlier) c.args.row.now.marks c.in-ok-heads.ensures.taken
-    c.in-ok-found.found c.in-ok-found.ensures c.written.result c.written.new.row.marks c.written.ensures
+    found_answers (branching 96) (rules_of c.args.program.now) c.args.given.now.marks (from c.args.earlier) c.args.row.now.marks c.in_ok-heads.ensures.taken
+    c.in_ok-found.found c.in_ok-found.ensures c.written.result c.written.new.row.marks c.written.ensures

@@ -1,4 +1,4 @@
-use Rattle.std.proofs.Common.{◌≡◌, true, ◌&&◌, length, vec_items, sym, ap, ◌∙◌, arith}
+use Rattle.std.proofs.Common.{◌≡◌, true, length, vec_items, sym, ap, ◌∙◌, arith}
 use lib.ListN.{length-map}
 use Rattle.std.proofs.lemmas.Bool.{le-leb, lt-leb, and_left, and_from}
 use Rattle.programs.specs.Limits.{all_fit}
@@ -11,5 +11,5 @@ returns-then-len-gt256 g c = and_left _ _ (lt-leb (length (models (vec_items c.a
 pub invariant_of-result : goal.invariant_of-result
 invariant_of-result g c =
     let few = le-leb (length (models (vec_items c.args.rules))) 256 (omega (arith, length-map (vec_items c.args.rules) model, c.args.rules.ok.0)) in
-    let all : all_fit g.row.N (models (vec_items c.args.rules)) ≡ true = ap (λ rs. all_fit g.row.N (models rs)) (sym c.as-slice.ensures.value) ∙ sym c.if-not-all-fit.ensures in
-    (and_from _ _ few all, tt)
+    let all : all_fit g.row.N (models (vec_items c.args.rules)) ≡ true = ap (λ rs. all_fit g.row.N (models rs)) (sym c.as_slice.ensures.value) ∙ sym c.if-not-all_fit.ensures in
+    record { kept = and_from _ _ few all }

@@ -8,19 +8,19 @@ use Rattle.reading.proofs.lexer.Lexer.next.Goals as goal
 pub returns-then-at-bytes : goal.returns-then-at-bytes
 returns-then-at-bytes c =
     let bs = c.args.self.now.bytes.now in
-    record { tells = lexed_at bs c.args.self.now.at _ c.skip-gap-at.ensures.value ∙ front_end bs _ _ (omega arith); moves = tt; text = refl; bytes = refl }
+    record { tells = lexed_at bs c.args.self.now.at _ c.skip_gap-at.ensures.value ∙ front_end bs _ _ (omega arith); moves = tt; text = refl; bytes = refl }
 
-pub returns-in-err-token : goal.returns-in-err-token
-returns-in-err-token c =
+pub returns-in_err-token : goal.returns-in_err-token
+returns-in_err-token c =
     let p = err_from_is_err_and c.from-residual.result c.from-residual.ensures.1 in
     let bs = c.args.self.now.bytes.now in
-    let next = ap (lexical_fault c.args.self.now.text) (lexed_at bs c.args.self.now.at _ c.skip-gap-at.ensures.value) in
-    record { tells = rw p.1 (next ∙ c.in-err-token.ensures.tells ∙ ap Some (sym p.2)); moves = rw p.1 tt; text = refl; bytes = refl }
+    let next = ap (lexical_fault c.args.self.now.text) (lexed_at bs c.args.self.now.at _ c.skip_gap-at.ensures.value) in
+    record { tells = rw p.1 (next ∙ c.in_err-token.ensures.tells ∙ ap Some (sym p.2)); moves = rw p.1 tt; text = refl; bytes = refl }
 
 pub invariant_of-self : goal.invariant_of-self
-invariant_of-self c = (c.in-ok-token.ensures.within.1, tt)
+invariant_of-self c = (c.in_ok-token.ensures.within.1, tt)
 
 pub returns : goal.returns
 returns c =
     let bs = c.args.self.now.bytes.now in
-    record { tells = lexed_at bs c.args.self.now.at _ c.skip-gap-at.ensures.value ∙ c.in-ok-token.ensures.tells; moves = omega (arith, c.skip-gap-at.ensures.value, c.in-ok-token.ensures.within.0); text = refl; bytes = refl }
+    record { tells = lexed_at bs c.args.self.now.at _ c.skip_gap-at.ensures.value ∙ c.in_ok-token.ensures.tells; moves = omega (arith, c.skip_gap-at.ensures.value, c.in_ok-token.ensures.within.0); text = refl; bytes = refl }

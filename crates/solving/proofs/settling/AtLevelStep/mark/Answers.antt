@@ -11,4 +11,4 @@ returns g c =
     let x = step.against.now.marks in
     let s = c.args.from.now.marks in
     let of = step.levels.now in
-    as_marked g.row.N (λ r. head_at of step.level r.head && fires x s r) (models step.rules.now) _ _ _ (picked_level (models step.rules.now) of step.level x s) c.mark-heads.new.out.wide c.mark-heads.ensures
+    as_marked g.row.N (λ r. head_at of step.level r.head && fires x s r) (models step.rules.now) _ _ _ (picked_level (models step.rules.now) of step.level x s) c.mark_heads.new.out.wide c.mark_heads.ensures
