@@ -17,8 +17,8 @@ fn entry_from<F: Finder<96>>(
     given: &Row<96>,
     earlier: Option<&Row<96>>,
 ) -> Option<Row<96>>
-    requires { (Taken 96 (meaning finder.now).most (rules_of program.now) given.now.marks) × (Listed ((meaning finder.now).order (rules_of program.now) given.now.marks) (from earlier)) }
-    ensures { Goes_on ((meaning finder.now).order (rules_of program.now) given.now.marks) (from earlier.entry) result }
+    requires { (Taken 96 (F.meaning finder.now).most (rules_of program.now) given.now.marks) × (Listed ((F.meaning finder.now).order (rules_of program.now) given.now.marks) (from earlier)) }
+    ensures { Goes_on ((F.meaning finder.now).order (rules_of program.now) given.now.marks) (from earlier.entry) result }
 {
     let mut row = Row::clear();
     let Ok(found) = finder.next(program, given, earlier, &mut row) else {
@@ -37,8 +37,8 @@ pub(crate) fn following<F: Finder<96>>(
     given: &Row<96>,
     earlier: Option<Row<96>>,
 ) -> Option<Row<96>>
-    requires { (Taken 96 (meaning finder.now).most (rules_of program.now) given.now.marks) × (Listed ((meaning finder.now).order (rules_of program.now) given.now.marks) (on_from earlier)) }
-    ensures { Goes_on ((meaning finder.now).order (rules_of program.now) given.now.marks) (on_from earlier) result }
+    requires { (Taken 96 (F.meaning finder.now).most (rules_of program.now) given.now.marks) × (Listed ((F.meaning finder.now).order (rules_of program.now) given.now.marks) (on_from earlier)) }
+    ensures { Goes_on ((F.meaning finder.now).order (rules_of program.now) given.now.marks) (on_from earlier) result }
 {
     let mut entry = Row::clear();
     let mut place = None;

@@ -32,8 +32,8 @@ impl Loaded {
         struck: &[Row<96>],
         sheet: &mut Vec<Pair>,
     ) -> Option<Row<96>>
-        requires { (Takes (meaning finder.now) (texts_from self.now)) × (256 ≤ vec_capacity sheet.old) }
-        ensures { (Asked (texts_from self.now) (rows struck.now) (λ m. (meaning finder.now).order (rules_of self.now.faults) m) ((meaning finder.now).order (rules_of self.now.plan) nothing) (pairs sheet.old.items) (row_shown result) (pairs sheet.new.items)) × (vec_capacity sheet.new ≡ vec_capacity sheet.old) }
+        requires { (Takes (F.meaning finder.now) (texts_from self.now)) × (256 ≤ vec_capacity sheet.old) }
+        ensures { (Asked (texts_from self.now) (rows struck.now) (λ m. (F.meaning finder.now).order (rules_of self.now.faults) m) ((F.meaning finder.now).order (rules_of self.now.plan) nothing) (pairs sheet.old.items) (row_shown result) (pairs sheet.new.items)) × (vec_capacity sheet.new ≡ vec_capacity sheet.old) }
     {
         let nothing = Row::clear();
         let mut earlier = None;

@@ -1,8 +1,8 @@
 -- What the settled set says of answer sets.
-use Rattle.std.proofs.Common.{◌≡◌, ℕ, ◌<◌, Bool, true, false, not, leb, List, length, sym, refl, ap, ◌∙◌, subst, arith}
-use Rattle.std.proofs.lemmas.Bool.{and_parts, not-true, not_from_false}
-use Rattle.game.specs.Sets.{Row, In}
-use Rattle.game.specs.Rules.{Rule, is_head}
+use Rattle.std.proofs.Common.{◌≡◌, ℕ, Bool, true, not, List, length, sym, ◌∙◌}
+use Rattle.std.proofs.lemmas.Bool.{not-true, not_from_false}
+use Rattle.game.specs.Sets.{Row}
+use Rattle.game.specs.Rules.{Rule}
 use Rattle.game.specs.Derives.{Settles}
 use Rattle.game.proofs.StrataOnce.{one_answer_at_most}
 use Rattle.game.proofs.StrataSettled.{Settling, New, settled_answer, settled_headed_answer, answer_allows, settled_width}

@@ -1,19 +1,18 @@
 -- The number of atoms that an atom cannot reach is a level for it, where the program is stratified.
-use Rattle.std.proofs.Common.{◌≡◌, ℕ, zero, suc, ◌+◌, ◌<◌, ◌≤◌, Bool, true, false, ◌&&◌, ltb, leb, List, [], ◌∷◌, ◌++◌, length, get_or, Decides, sym, refl, ap, ◌∙◌, subst, inl, inr, ⊎_elim, arith}
+use Rattle.std.proofs.Common.{◌≡◌, ℕ, zero, suc, ◌<◌, ◌≤◌, true, false, ltb, leb, List, [], ◌∷◌, length, Decides, sym, refl, ◌∙◌, subst, arith}
 use Rattle.std.specs.List.{ContainsAt as Has, AllByRecursion as All}
 use Rattle.std.proofs.ByRecursion.{all-has, All-from_get_or, All-get_or, has_append_left, has_append_right, all_has_itself, All-weaker, Decides-by_and}
-use Rattle.std.proofs.lemmas.Bool.{and_parts, ltb-true, lt-ltb, le-leb, leb-true, false≢true}
+use Rattle.std.proofs.lemmas.Bool.{and_parts, le-leb, leb-true, false≢true}
 use Rattle.std.proofs.lemmas.Bool.Decides.{Decides-like, Decides-and, Decides-ltb}
 use Rattle.game.specs.Sets.{Row, In, Within}
-use Rattle.game.specs.Rules.{Head, none, atom, Rule, is_head}
-use Rattle.game.specs.Strata.{Edge, Reaches, here, on, Breaks, Stratified, Leveled}
+use Rattle.game.specs.Rules.{Head, none, atom, Rule}
+use Rattle.game.specs.Strata.{Edge, Reaches, here, on, Stratified, Leveled}
 use Rattle.game.proofs.Deriving.{HeadsBelow, head_is_head}
 use Rattle.closure.specs.Rows.{marked}
-use Rattle.closure.proofs.Marks.{marked_within, more_marked, in_below}
+use Rattle.closure.proofs.Marks.{marked_within, more_marked}
 use Rattle.programs.specs.Limits.{all_below, all_fit, rule_fits}
 use Rattle.programs.proofs.Fitting.{Kept, kept}
 use Rattle.solving.specs.Levels.{level_in, none_above, all_beneath, rule_leveled, leveled, Ranked}
-use Rattle.solving.specs.Reached.{Reached}
 
 -- what an atom's successor reaches, the atom reaches
 edge_first : {rules : List Rule} {b a : ℕ} → Edge rules b a → {c : ℕ} → Reaches rules a c → Reaches rules b c

@@ -1,5 +1,5 @@
 -- The smallest set around an atom that is closed under the edges holds exactly the atoms that it reaches.
-use Rattle.std.proofs.Common.{◌≡◌, ℕ, ◌<◌, Bool, true, false, ◌&&◌, ◌||◌, List, ◌++◌, length, get_or, set, replicate, Decides, sym, refl, ap, ◌∙◌, subst, inl, inr, ⊎_elim, arith}
+use Rattle.std.proofs.Common.{◌≡◌, ℕ, ◌<◌, true, false, List, ◌++◌, length, get_or, set, replicate, Decides, sym, refl, ap, ◌∙◌, subst, inl, inr, ⊎_elim, arith}
 use Rattle.std.specs.List.{ContainsAt as Has}
 use Rattle.std.proofs.ByRecursion.{has_append_left, has_append_right}
 use Rattle.std.proofs.lemmas.List.{length-set, length-replicate, get_or-set_same, get_or-set_other, get_or_default}
@@ -13,7 +13,6 @@ use Rattle.game.proofs.Deriving.{HeadsBelow, decides_some, heads_decides, head_i
 use Rattle.game.proofs.StrataRows.{decides_itself}
 use Rattle.game.proofs.StrataLists.{has_append_cases}
 use Rattle.closure.specs.Steps.{Rounds}
-use Rattle.closure.proofs.Marks.{in_below}
 use Rattle.closure.proofs.Rounding.{rounds_induction}
 use Rattle.game.specs.Published.{any_in}
 use Rattle.solving.specs.Tests.{headed_by, touches}

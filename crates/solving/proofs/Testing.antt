@@ -1,14 +1,11 @@
 -- The answer-set test decides answer sets.
-use Rattle.std.proofs.Common.{◌≡◌, ℕ, ◌<◌, Bool, true, false, ◌&&◌, ◌||◌, leb, List, [], ◌∷◌, length, get_or, Decides, sym, refl, ap, ◌∙◌, subst, inl, inr, ⊎_elim, arith}
-use Rattle.std.specs.List.{ContainsAt as Has}
+use Rattle.std.proofs.Common.{◌≡◌, ℕ, ◌<◌, Bool, true, false, leb, List, [], ◌∷◌, length, get_or, Decides, sym, refl, ◌∙◌, subst, ⊎_elim, arith}
 use Rattle.std.proofs.lemmas.Bool.{and_parts, or_cases, ltb-true, eqb-true, false≢true, both_ways}
-use Rattle.std.proofs.lemmas.Bool.Decides.{Decides-like, Decides-and, not_from_Decides}
-use Rattle.game.specs.Sets.{Row, In, Within, union}
+use Rattle.std.proofs.lemmas.Bool.Decides.{Decides-and, not_from_Decides}
+use Rattle.game.specs.Sets.{Row, In, union}
 use Rattle.game.specs.Rules.{Head, none, atom, Rule, heads, is_head, Kept, PlainIn}
 use Rattle.game.specs.AnswerSets.{AnswerSet, Allowed, Smallest}
-use Rattle.game.specs.Derives.{fires, derives, SmallestClosed}
-use Rattle.game.proofs.Deriving.{HeadsBelow, decides_some, fires_decides, is_head_decides, closed_smallest, one_closed}
-use Rattle.game.proofs.Deriving
+use Rattle.game.proofs.Deriving.{HeadsBelow, decides_some, fires_decides}
 use Rattle.closure.proofs.Marks.{in_below, same_rows, in_union, union_left, union_right, length_union}
 use Rattle.programs.specs.Limits.{all_fit, rule_fits, head_below, fits}
 use Rattle.programs.proofs.Fitting.{kept}

@@ -22,7 +22,7 @@ pub(crate) fn mark_heads<const N: usize, P: Picks<N>>(
     from: &Row<N>,
     out: &mut Row<N>,
 )
-    ensures { (a : ℕ) → a < N → slice_index_or out.new.marks a false ≡ (slice_index_or out.old.marks a false || headed_by (chosen picker.now from.now.marks) (models rules.now) a) }
+    ensures { (a : ℕ) → a < N → slice_index_or out.new.marks a false ≡ (slice_index_or out.old.marks a false || headed_by (P.chosen picker.now from.now.marks) (models rules.now) a) }
 {
     for rule in rules {
         if let Head::Atom(head) = rule.head {

@@ -42,7 +42,7 @@ impl Book {
 
     // Shows the first plan in the finder's order that wins and is not struck, and writes it into the row; or says that there is none, and clears the row.
     pub fn ask<F: Finder<96>>(&mut self, finder: &F, row: &mut Row<96>) -> Result<Told, Refusal>
-        ensures goes { Goes (ask (meaning finder.now)) (book_of self.old) (ask_answer result row.new.marks) (book_of self.new) }
+        ensures goes { Goes (ask (F.meaning finder.now)) (book_of self.old) (ask_answer result row.new.marks) (book_of self.new) }
         ensures row { Untouched result row.old.marks row.new.marks }
     {
         let Some(open) = self.open.take() else {

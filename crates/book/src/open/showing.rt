@@ -16,8 +16,8 @@ use finders::finder::Finder;
 impl Open {
     // The book after the plans were gone down: the sheet then, and the plan shown or none.
     pub(crate) fn asked<F: Finder<96>>(self, finder: &F) -> Open
-        requires { TooMany (meaning finder.now) (texts_from self.loaded) → ⊥ }
-        ensures { AsksTo (meaning finder.now) (texts_from self.loaded) (open_book self) (open_book result) }
+        requires { TooMany (F.meaning finder.now) (texts_from self.loaded) → ⊥ }
+        ensures { AsksTo (F.meaning finder.now) (texts_from self.loaded) (open_book self) (open_book result) }
     {
         let mut sheet = self.sheet;
         let shown = self

@@ -5,7 +5,7 @@ use Rattle.finders.proofs.Answered.{Tells, tells}
 use Rattle.book.proofs.following.entry_from.Goals as goal
 
 pub unreachable-requires : goal.unreachable-requires
-unreachable-requires g c = tells (g.F.Finder.meaning c.args.finder.now) (rules_of c.args.program.now) c.args.given.now.marks (from c.args.earlier) _ _ _ c.in-default.ensures c.requires.0 c.requires.1
+unreachable-requires g c = tells (g.F.Finder.meaning c.args.finder.now) (rules_of c.args.program.now) c.args.given.now.marks (from c.args.earlier) _ _ _ c.in_default.ensures c.requires.0 c.requires.1
 
 pub returns-in-Entry : goal.returns-in-Entry
 returns-in-Entry g c =

@@ -26,7 +26,7 @@ pub unreachable-requires : goal.unreachable-requires
 unreachable-requires c =
     let (memory, goes) = c.in_ok-load.ensures in
     let (t, has) = has_texts memory c.args.side c.args.plan.now c.args.faults.now c.args.site.now _ (book_of c.load.new.self) done goes in
-    shows (book_of c.load.new.self) (book_of c.ask.new.self) (refused (refusal_model c.in-default.field-0)) c.in-default.ensures.goes t has
+    shows (book_of c.load.new.self) (book_of c.ask.new.self) (refused (refusal_model c.in_default.field-0)) c.in_default.ensures.goes t has
 
 pub returns : goal.returns
 returns c =

@@ -42,13 +42,13 @@ returns-in-None-lowest t c =
     let closed = subst (λ s. (a : ℕ) → In a s → ⊥) c.minus.ensures c.in-None-lowest.ensures in
     option_weaker c.only.result c.only.ensures (lone_refused node closed) (λ x (e, answer). lone_first node closed x.marks e answer)
 
-pub returns-in-default : goal.returns-in-default
-returns-in-default t c =
+pub returns-in_default : goal.returns-in_default
+returns-in_default t c =
     let node : Node 96 (rules_of c.args.program.now) c.args.given.now.marks c.args.bounds.now.low.marks c.args.bounds.now.high.marks c.in-Some.closer.low.marks c.in-Some.closer.high.marks =
     record { wide = c.args.given.now.wide; apart = c.requires.1; around = c.requires.0; l_wide = c.in-Some.closer.low.wide; closer = c.in-Some.ensures } in
     let first : Lowest (minus c.in-Some.closer.high.marks c.in-Some.closer.low.marks) c.in-Some-lowest.atom = subst (λ s. Lowest s c.in-Some-lowest.atom) c.minus.ensures c.in-Some-lowest.ensures in
     let is_one : One c.in-Some-lowest.atom c.with-one.result.marks =
     one_from 96 c.in-Some-lowest.atom c.with-one.result.marks (open_below 96 c.in-Some.closer.low.marks c.in-Some.closer.high.marks c.in-Some-lowest.atom c.in-Some.closer.high.wide first) (c.with-one.ensures ∙ ap (λ s. set s c.from.result true) c.clear.ensures ∙ ap (λ k. set (replicate 96 false) k true) c.from.ensures) in
     option_weaker c.search-in-Some-lowest.result c.search-in-Some-lowest.ensures
-    (none_either node c.in-Some-lowest.atom c.with-one.result.marks c.minus-in-Some-lowest.result.marks c.union.result.marks is_one first c.minus-in-Some-lowest.ensures c.union.ensures c.in-default.ensures)
-    (λ x. first_present node c.in-Some-lowest.atom c.with-one.result.marks c.minus-in-Some-lowest.result.marks c.union.result.marks is_one first c.minus-in-Some-lowest.ensures c.union.ensures c.in-default.ensures x.marks)
+    (none_either node c.in-Some-lowest.atom c.with-one.result.marks c.minus-in-Some-lowest.result.marks c.union.result.marks is_one first c.minus-in-Some-lowest.ensures c.union.ensures c.in_default.ensures)
+    (λ x. first_present node c.in-Some-lowest.atom c.with-one.result.marks c.minus-in-Some-lowest.result.marks c.union.result.marks is_one first c.minus-in-Some-lowest.ensures c.union.ensures c.in_default.ensures x.marks)

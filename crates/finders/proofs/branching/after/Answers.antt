@@ -23,8 +23,8 @@ returns-in-Some c =
     let turn : In a (minus heads entry) = sym (ap (λ s. get_or s a false) c.minus-open.ensures) ∙ sym c.has.ensures ∙ c.if-has.true in
     first_turned 96 96 rules given heads entry c.requires.0 c.requires.1 a c.turned.result.low.marks c.turned.result.high.marks c.turned.ensures turn none c.in-Some.set.marks c.in-Some.ensures
 
-pub loop-atom-preserved-in-default : goal.loop-atom-preserved-in-default
-loop-atom-preserved-in-default c =
+pub loop-atom-preserved-in_default : goal.loop-atom-preserved-in_default
+loop-atom-preserved-in_default c =
     let a = c.loop-atom.atom - 1 in
     let rules = rules_of c.args.program.now in
     let given = c.args.given.now.marks in
@@ -32,7 +32,7 @@ loop-atom-preserved-in-default c =
     let entry = c.args.entry.now.marks in
     let none : NoneFrom rules given entry (suc a) = subst (NoneFrom rules given entry) (last c.loop-atom.atom c.loop-atom-test.true) c.loop-atom.invariant.1 in
     let turn : In a (minus heads entry) = sym (ap (λ s. get_or s a false) c.minus-open.ensures) ∙ sym c.has.ensures ∙ c.if-has.true in
-    (omega (arith, c.loop-atom.invariant.0), none_turned 96 96 rules given heads entry c.requires.0 c.requires.1 a c.turned.result.low.marks c.turned.result.high.marks c.turned.ensures turn none c.in-default.ensures)
+    (omega (arith, c.loop-atom.invariant.0), none_turned 96 96 rules given heads entry c.requires.0 c.requires.1 a c.turned.result.low.marks c.turned.result.high.marks c.turned.ensures turn none c.in_default.ensures)
 
 pub loop-atom-preserved : goal.loop-atom-preserved
 loop-atom-preserved c =

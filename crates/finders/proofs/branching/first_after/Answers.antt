@@ -5,10 +5,10 @@ use Rattle.finders.specs.Asked.{from}
 use Rattle.finders.proofs.Following.{goes_from_start, goes_unlisted, goes_on}
 use Rattle.finders.proofs.branching.first_after.Goals as goal
 
-pub returns-in-default : goal.returns-in-default
-returns-in-default c =
+pub returns-in_default : goal.returns-in_default
+returns-in_default c =
     goes_from_start 96 96 (rules_of c.args.program.now) c.args.given.now.marks c.args.heads.now.marks c.requires
-    c.union.result.marks c.union.ensures (from c.args.earlier) (ap from c.in-default.is) c.search.result c.search.ensures
+    c.union.result.marks c.union.ensures (from c.args.earlier) (ap from c.in_default.is) c.search.result c.search.ensures
 
 pub returns-then-not-is_answer_set : goal.returns-then-not-is_answer_set
 returns-then-not-is_answer_set c =

@@ -12,10 +12,10 @@ first_from-requires g c =
     let of : SetOf c.args.heads.now.marks c.clear.result.marks = clear_set_of g.row.N c.args.heads.now.marks c.clear.result.marks c.args.heads.now.wide c.clear.ensures in
     search rules
 
-pub returns-in-default : goal.returns-in-default
-returns-in-default g c =
+pub returns-in_default : goal.returns-in_default
+returns-in_default g c =
     goes_from_start g.row.N (rules_of c.args.program.now) c.args.given.now.marks c.args.heads.now.marks c.args.given.now.wide c.requires
-    c.clear.result.marks c.clear.ensures (from c.args.earlier) (ap from c.in-default.is) c.first_from.result c.first_from.ensures
+    c.clear.result.marks c.clear.ensures (from c.args.earlier) (ap from c.in_default.is) c.first_from.result c.first_from.ensures
 
 pub returns-then-not-is_answer_set : goal.returns-then-not-is_answer_set
 returns-then-not-is_answer_set g c =

@@ -1,6 +1,5 @@
-use Rattle.std.proofs.Common.{◌≡◌, true, false, not, sym, ◌∙◌}
-use Rattle.std.proofs.lemmas.Bool.{not-true}
-use Rattle.std.proofs.lemmas.Bool.Decides.{Decides-not, Decides-like, not_from_Decides}
+use Rattle.std.proofs.Common.{sym, ◌∙◌}
+use Rattle.std.proofs.lemmas.Bool.Decides.{Decides-not, Decides-like}
 use Rattle.programs.specs.Programs.{rules_of}
 use Rattle.solving.proofs.Testing.{Trial, program_heads, refused, only_heads, is_smallest, accepted, unbroken}
 use Rattle.solving.proofs.answer.is_answer_set.Goals as goal

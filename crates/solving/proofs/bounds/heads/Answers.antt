@@ -1,6 +1,5 @@
-use Rattle.std.proofs.Common.{◌≡◌, true, false, ◌||◌, get_or, replicate, ap, ◌∙◌}
+use Rattle.std.proofs.Common.{true, false, ◌||◌, get_or, ap, ◌∙◌}
 use Rattle.game.specs.Rules.{is_head}
-use Rattle.programs.specs.Programs.{rules_of}
 use Rattle.programs.specs.Model.{models}
 use Rattle.solving.specs.Tests.{headed_by}
 use Rattle.solving.proofs.Marking.{picked_heads, clear_mark}

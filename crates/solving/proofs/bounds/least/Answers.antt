@@ -1,4 +1,4 @@
-use Rattle.std.proofs.Common.{sym, ap, ◌∙◌, subst}
+use Rattle.std.proofs.Common.{ap, ◌∙◌, subst}
 use Rattle.game.specs.AnswerSets.{Smallest}
 use Rattle.game.proofs.Deriving.{closed_smallest}
 use Rattle.programs.specs.Limits.{fits}

@@ -1,9 +1,9 @@
-use Rattle.std.proofs.Common.{◌≡◌, ◌+◌, ◌<◌, false, ◌||◌, eqb, length, get_or, drop, sym, ap, ◌∙◌, arith}
+use Rattle.std.proofs.Common.{◌≡◌, ◌+◌, ◌<◌, false, ◌||◌, length, get_or, drop, sym, ap, ◌∙◌, arith}
 use Rattle.programs.specs.Model.{head_model, models}
 use Rattle.solving.specs.Tests.{headed_by}
 use Rattle.solving.proofs.Marking.{marked_more, with_head, unpicked, headless, none_left}
 use Rattle.solving.proofs.picking.mark_heads.Goals as goal
-use Rattle.solving.proofs.picking.mark_heads.Goals.{in-Atom+then-picks, in-Atom+else-picks, in-default}
+use Rattle.solving.proofs.picking.mark_heads.Goals.{in-Atom+then-picks, in-Atom+else-picks, in_default}
 
 pub loop-rule-preserved : goal.loop-rule-preserved
 loop-rule-preserved g c a less =
@@ -21,9 +21,9 @@ loop-rule-preserved g c a less =
       | in-Atom+else-picks w ↦
           ap (λ o. get_or o.marks a false || headed_by p (models (drop (i + 1) rs)) a) w.out-is
           ∙ unpicked p rs i r c.loop-rule-test.true c.rule-item.is a (get_or out a false) (sym w.if-picks.ensures)
-      | in-default w ↦
+      | in_default w ↦
           ap (λ o. get_or o.marks a false || headed_by p (models (drop (i + 1) rs)) a) w.out-is
-          ∙ headless p rs i r c.loop-rule-test.true c.rule-item.is a (get_or out a false) (ap head_model w.in-default.is)
+          ∙ headless p rs i r c.loop-rule-test.true c.rule-item.is a (get_or out a false) (ap head_model w.in_default.is)
     ] in
     step ∙ c.loop-rule.invariant a less
 

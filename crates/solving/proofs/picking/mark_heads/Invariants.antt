@@ -1,4 +1,4 @@
-use Rattle.std.proofs.Common.{◌≡◌, ℕ, ◌<◌, false, ◌||◌, length, get_or, drop}
+use Rattle.std.proofs.Common.{◌≡◌, ℕ, ◌<◌, false, ◌||◌, get_or, drop}
 use Rattle.programs.specs.Model.{models}
 use Rattle.solving.specs.Tests.{headed_by}
 use Rattle.solving.proofs.picking.mark_heads.Given as goal

@@ -1,7 +1,6 @@
-use Rattle.std.proofs.Common.{◌≡◌, Decides, sym, ap, ◌∙◌, subst, arith, rules}
+use Rattle.std.proofs.Common.{sym, ap, ◌∙◌, subst, arith, rules}
 use Rattle.std.proofs.lemmas.Bool.{false≢true, ltb-true}
 use Rattle.std.proofs.lemmas.Bool.Decides.{Decides-at}
-use Rattle.game.specs.Strata.{Breaks}
 use Rattle.programs.specs.Limits.{head_below}
 use Rattle.programs.specs.Model.{head_model, model, models}
 use Rattle.solving.specs.Reached.{Reached}

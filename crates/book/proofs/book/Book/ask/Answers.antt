@@ -15,11 +15,11 @@ use Rattle.book.proofs.Calls.{at_open, at_new}
 use Rattle.book.proofs.Showings.{readable, told_goes}
 use Rattle.book.proofs.book.Book.ask.Goals as goal
 
-pub returns-in-default : goal.returns-in-default
-returns-in-default g c =
+pub returns-in_default : goal.returns-in_default
+returns-in_default g c =
     let f = g.F.Finder.meaning c.args.finder.now in
     record {
-      goes = at_new (λ b. Goes (ask f) b (refused nothing_loaded) (open_or_new c.take.new.self)) c.args.self.now.open (sym c.take.ensures.value ∙ c.in-default.is)
+      goes = at_new (λ b. Goes (ask f) b (refused nothing_loaded) (open_or_new c.take.new.self)) c.args.self.now.open (sym c.take.ensures.value ∙ c.in_default.is)
           (at_new (λ b. Goes (ask f) new_book (refused nothing_loaded) b) c.take.new.self c.take.ensures.after (ask_unloaded refl));
       row = refl;
     }

@@ -8,15 +8,15 @@ use Rattle.book.specs.Books.{open_or_new}
 use Rattle.book.proofs.Calls.{at_open, at_new}
 use Rattle.book.proofs.book.Book.strike.Goals as goal
 
-pub returns-in-default : goal.returns-in-default
-returns-in-default c =
-    at_new (λ b. Goes strike b (refused nothing_loaded) (open_or_new c.take.new.self)) c.args.self.now.open (sym c.take.ensures.value ∙ c.in-default.is)
+pub returns-in_default : goal.returns-in_default
+returns-in_default c =
+    at_new (λ b. Goes strike b (refused nothing_loaded) (open_or_new c.take.new.self)) c.args.self.now.open (sym c.take.ensures.value ∙ c.in_default.is)
     (at_new (λ b. Goes strike new_book (refused nothing_loaded) b) c.take.new.self c.take.ensures.after (strike_unloaded refl))
 
-pub returns-in-default-shown : goal.returns-in-default-shown
-returns-in-default-shown c =
+pub returns-in_default-shown : goal.returns-in_default-shown
+returns-in_default-shown c =
     let o = c.in-Some.open in
-    at_open (λ b. Goes strike b (refused none_shown) (open_book o)) c.args.self.now.open o (sym c.take.ensures.value ∙ c.in-Some.is) (strike_none (texts_from o.loaded) refl (ap row_shown c.in-default-shown.is))
+    at_open (λ b. Goes strike b (refused none_shown) (open_book o)) c.args.self.now.open o (sym c.take.ensures.value ∙ c.in-Some.is) (strike_none (texts_from o.loaded) refl (ap row_shown c.in_default-shown.is))
 
 pub returns-then-len-ge-MOST-STRUCK : goal.returns-then-len-ge-MOST-STRUCK
 returns-then-len-ge-MOST-STRUCK c =

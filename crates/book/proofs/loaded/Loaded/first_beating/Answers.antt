@@ -57,4 +57,4 @@ returns g c =
     let xs = m.order rules plan in
     let lists : Lists xs (AnswerSet rules plan) = m.law rules plan c.requires in
     let at = on_from c.loop-reply.earlier in
-    none_left (Beats (texts_from c.args.self.now) plan) xs (lists_differ lists) at c.in-default.ensures c.loop-reply.invariant.1
+    none_left (Beats (texts_from c.args.self.now) plan) xs (lists_differ lists) at c.in_default.ensures c.loop-reply.invariant.1

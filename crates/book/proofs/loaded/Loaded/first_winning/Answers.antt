@@ -135,5 +135,5 @@ returns g c =
     let at = on_from c.loop-plan.earlier in
     let s = pairs (vec_items c.loop-plan.sheet) in
     let s₀ = pairs (vec_items c.args.sheet.now) in
-    let rest = subst (λ (n : Row). Rest (m.order plans n) at []) c.clear-nothing.ensures c.in-default.ensures in
+    let rest = subst (λ (n : Row). Rest (m.order plans n) at []) c.clear-nothing.ensures c.in_default.ensures in
     (asked_out t struck replies xs s₀ at s (lists_differ lists) rest c.loop-plan.invariant.1, c.loop-plan.invariant.2)

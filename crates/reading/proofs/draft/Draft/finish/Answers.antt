@@ -3,4 +3,4 @@ use Rattle.reading.proofs.Limiting.{within_fits}
 use Rattle.reading.proofs.draft.Draft.finish.Goals as goal
 
 pub unreachable-requires : goal.unreachable-requires
-unreachable-requires c = both_ways _ c.in-default.ensures (within_fits _ c.requires)
+unreachable-requires c = both_ways _ c.in_default.ensures (within_fits _ c.requires)

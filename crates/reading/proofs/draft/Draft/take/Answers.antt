@@ -4,8 +4,8 @@ use Rattle.reading.specs.States.{state_of, Took}
 use Rattle.reading.proofs.Stepping.{step_misplaced, step_crowded, step_overfull, step_taken}
 use Rattle.reading.proofs.draft.Draft.take.Goals as goal
 
-pub returns-in-default : goal.returns-in-default
-returns-in-default c = record { state = inr (step_misplaced _ _ (state_of c.args.self.now) (word_of c.args.spot.token) (sym c.in-default.ensures)); text = refl }
+pub returns-in_default : goal.returns-in_default
+returns-in_default c = record { state = inr (step_misplaced _ _ (state_of c.args.self.now) (word_of c.args.spot.token) (sym c.in_default.ensures)); text = refl }
 
 pub returns-then-crowds : goal.returns-then-crowds
 returns-then-crowds c = record { state = inr (step_crowded _ _ (state_of c.args.self.now) (word_of c.args.spot.token) c.in-Some.next (sym c.in-Some.ensures) (sym c.if-crowds.ensures)); text = refl }

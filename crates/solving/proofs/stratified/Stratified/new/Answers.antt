@@ -1,8 +1,7 @@
-use Rattle.std.proofs.Common.{◌≡◌, true, leb, length, sym, ap, ◌∙◌, subst, rules}
+use Rattle.std.proofs.Common.{◌≡◌, true, leb, length, sym, subst, rules}
 use Rattle.std.proofs.lemmas.Bool.{and_parts}
-use Rattle.game.specs.Strata.{Stratified}
 use Rattle.game.proofs.Deriving.{HeadsBelow}
-use Rattle.programs.specs.Limits.{fits, all_fit}
+use Rattle.programs.specs.Limits.{all_fit}
 use Rattle.programs.specs.Programs.{rules_of}
 use Rattle.solving.specs.Levels.{Ranked}
 use Rattle.solving.proofs.Leveling.{ranked_leveled, levels_low}
@@ -19,4 +18,4 @@ invariant_of-result g c =
     let all : all_fit g.row.N rules ≡ true = (and_parts (leb (length rules) 256) _ c.args.program.kept).1 in
     let of = c.rank-levels.result.of in
     let ranked : Ranked rules g.row.N g.row.N of = subst (λ rs. Ranked rs g.row.N g.row.N of) c.rules.ensures c.rank-levels.ensures in
-    (ranked_leveled g.row.N rules of below ranked all c.in-default.ensures, (levels_low g.row.N rules of below ranked c.rank-levels.result.wide, tt))
+    record { fit = ranked_leveled g.row.N rules of below ranked all c.in_default.ensures; low = levels_low g.row.N rules of below ranked c.rank-levels.result.wide }

@@ -1,4 +1,4 @@
-use Rattle.std.proofs.Common.{◌≡◌, ap, ◌∙◌}
+use Rattle.std.proofs.Common.{ap, ◌∙◌}
 use Rattle.programs.specs.Programs.{rules_of}
 use Rattle.solving.specs.Tests.{violated}
 use Rattle.solving.proofs.Judgement.{judged}
