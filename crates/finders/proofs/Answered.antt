@@ -1,11 +1,11 @@
 -- What an answer of a finder tells.
-use Rattle.std.proofs.Common.{◌≡◌, ℕ, List, [], ◌∷◌, Ok, Err, Result, sym, subst, arith}
+use Rattle.std.proofs.Common.{ℕ, List, [], ◌∷◌, Ok, Err, Result, subst, arith}
 use Rattle.game.specs.Sets.{Row}
 use Rattle.game.specs.Rules.{Rule}
 use Rattle.finders.specs.declared.finder.Found.{Found}
 use Rattle.finders.specs.declared.finder.Found.TheVariants.{Entry, End}
 use Rattle.finders.specs.declared.finder.Refusal.{Refusal}
-use Rattle.finders.specs.Meanings.{Meaning, Taken, heads_below, From, after, Rest, Listed}
+use Rattle.finders.specs.Meanings.{Meaning, Taken, From, Rest, Listed}
 use Rattle.finders.specs.Asked.{Answers, many_heads, given_head, unlisted, entry, end}
 
 module _ {n : ℕ} (m : Meaning n) (rules : List Rule) (given : Row) (at : From) where

@@ -1,10 +1,9 @@
 -- What a reduct derives bounds the answer sets between two sets.
-use Rattle.std.proofs.Common.{◌≡◌, ℕ, Bool, true, false, List, length, sym, refl, ap, ◌∙◌, subst, ⊎_elim}
-use Rattle.std.specs.List.{ContainsAt as Has}
+use Rattle.std.proofs.Common.{◌≡◌, ℕ, List, length, sym, ◌∙◌, subst, ⊎_elim}
 use Rattle.std.proofs.ByRecursion.{All-weaker}
 use Rattle.game.specs.Sets.{Row, In, Within, union}
-use Rattle.game.specs.Rules.{Rule, atom, Kept, PlainIn, Obeys}
-use Rattle.game.specs.AnswerSets.{AnswerSet, Smallest}
+use Rattle.game.specs.Rules.{Rule, Kept, Obeys}
+use Rattle.game.specs.AnswerSets.{Smallest}
 use Rattle.game.proofs.Deriving.{plain_grows}
 use Rattle.closure.specs.Rows.{minus}
 use Rattle.closure.proofs.Marks.{in_minus, minus_in, in_union, union_left, union_right, length_union, same_rows}

@@ -1,5 +1,5 @@
 -- What the search finds is what comes next in the branching order.
-use Rattle.std.proofs.Common.{◌≡◌, ℕ, List, length, Some, None, Option, sym, refl, ◌∙◌, subst, ⊎_elim, MatchOption}
+use Rattle.std.proofs.Common.{◌≡◌, ℕ, List, Some, None, Option, sym, subst, ⊎_elim, MatchOption}
 use Rattle.game.specs.Sets.{Row, In, union}
 use Rattle.game.specs.Rules.{Rule}
 use Rattle.game.specs.AnswerSets.{AnswerSet}

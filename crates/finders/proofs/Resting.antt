@@ -1,11 +1,11 @@
 -- What is left of a list without repeats after an entry, as a function.
-use Rattle.std.proofs.Common.{◌≡◌, ℕ, Bool, true, false, cond, ◌&&◌, List, [], ◌∷◌, ◌++◌, Decides, sym, refl, ap, ◌∙◌, subst, ap₂, inl, inr, ⊎_elim, arith}
+use Rattle.std.proofs.Common.{◌≡◌, Bool, true, false, cond, List, [], ◌∷◌, ◌++◌, sym, refl, ap, ◌∙◌, subst, ⊎_elim}
 use Rattle.std.specs.List.{ContainsAt as Has}
 use Rattle.std.proofs.ByRecursion.{has_append_right}
 use Rattle.std.proofs.lemmas.Bool.{cases_Bool, cond-true, cond-false, false≢true}
 use Rattle.game.specs.Sets.{Row}
 use Rattle.game.proofs.Listing.{Differ}
-use Rattle.game.proofs.StrataLists.{has_first, has_later}
+use Rattle.game.proofs.StrataLists.{has_first}
 use Rattle.finders.specs.Meanings.{From, start, after, Rest, whole, part, Listed}
 
 abbrev pub same_row : Row → Row → Bool

@@ -3,7 +3,7 @@ use Rattle.std.proofs.Common.{◌≡◌, ℕ, ◌-◌, ◌^◌, ◌<◌, List, l
 use Rattle.game.specs.Sets.{Row, In}
 use Rattle.game.specs.Rules.{Rule, is_head}
 use Rattle.game.specs.AnswerSets.{AnswerSet}
-use Rattle.game.proofs.Rows.{row, length-row, in_row, in_width}
+use Rattle.game.proofs.Rows.{length-row, in_row, in_width}
 use Rattle.finders.specs.Orders.{Lower}
 use Rattle.finders.specs.Upward.{HeadsAre, SetOf, UpFrom, Next, Last, First, NoneFrom}
 use Rattle.finders.proofs.Binary.{lower_trans, value, value_below, value_lower}

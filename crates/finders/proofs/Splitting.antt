@@ -1,14 +1,14 @@
 -- What is open between two bounds, and how a search goes on from the lowest open atom.
-use Rattle.std.proofs.Common.{◌≡◌, ℕ, ◌<◌, Bool, true, false, ◌⊎◌, List, length, get_or, set, replicate, sym, refl, ap, ◌∙◌, subst, inl, inr, ⊎_elim, arith}
+use Rattle.std.proofs.Common.{◌≡◌, ℕ, ◌<◌, true, false, ◌⊎◌, List, length, get_or, set, replicate, sym, ap, ◌∙◌, subst, inl, inr, ⊎_elim, arith}
 use Rattle.std.proofs.lemmas.List.{get_or-set_same, get_or-set_other}
-use Rattle.std.proofs.lemmas.Bool.{cases_Bool, cases_eq, both_ways, false≢true}
+use Rattle.std.proofs.lemmas.Bool.{cases_Bool, cases_eq, both_ways}
 use Rattle.std.proofs.lemmas.Bool.Decides.{same_from_decides}
 use Rattle.game.specs.Sets.{Row, In, Within, union}
 use Rattle.game.specs.Rules.{Rule, is_head}
 use Rattle.game.specs.AnswerSets.{AnswerSet}
 use Rattle.game.proofs.Rows.{in_none, in_width}
 use Rattle.closure.specs.Rows.{marked, minus}
-use Rattle.closure.proofs.Marks.{in_minus, minus_in, in_union, union_left, union_right, length_union, length-minus, same_rows, more_marked}
+use Rattle.closure.proofs.Marks.{in_minus, minus_in, in_union, union_left, union_right, length-minus, same_rows, more_marked}
 use Rattle.finders.specs.Orders.{Lexical}
 use Rattle.finders.specs.Between.{Between, First, Lowest, Narrower}
 

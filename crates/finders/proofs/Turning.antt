@@ -1,12 +1,12 @@
 -- The sets after an entry, by the lowest place where they differ from it.
-use Rattle.std.proofs.Common.{◌≡◌, ℕ, zero, suc, ◌+◌, ◌<◌, ◌≤◌, Bool, true, false, ◌||◌, eqb, ltb, ◌⊎◌, List, length, get_or, set, sym, refl, ap, ◌∙◌, subst, ap₂, inl, inr, ⊎_elim, arith}
+use Rattle.std.proofs.Common.{◌≡◌, ℕ, suc, ◌+◌, ◌<◌, ◌≤◌, true, false, ◌||◌, eqb, ltb, ◌⊎◌, List, length, get_or, set, sym, ◌∙◌, subst, ap₂, inl, inr, ⊎_elim, arith}
 use Rattle.std.proofs.lemmas.List.{get_or-set_same, get_or-set_other}
 use Rattle.std.proofs.lemmas.Bool.{cases_Bool, cases_eq, cases_lt, both_ways, ltb-true, lt-ltb, le-ltb, or_left, or_right, eq-eqb, ne_eqb}
 use Rattle.std.proofs.lemmas.Bool.Decides.{same_from_decides}
-use Rattle.game.specs.Sets.{Row, In, Within, union}
+use Rattle.game.specs.Sets.{Row, In, union}
 use Rattle.game.specs.Rules.{Rule, is_head}
 use Rattle.game.specs.AnswerSets.{AnswerSet}
-use Rattle.game.proofs.Rows.{row, in_row, row_passes, in_width}
+use Rattle.game.proofs.Rows.{in_row, row_passes, in_width}
 use Rattle.closure.specs.Rows.{minus}
 use Rattle.closure.proofs.Marks.{in_minus, minus_in, in_union, union_left, union_right}
 use Rattle.finders.specs.Orders.{Lexical}

@@ -1,5 +1,5 @@
 -- What the supplied finders mean.
-use Rattle.std.specs.Prelude.{ℕ, true, List, length, Decides, refl}
+use Rattle.std.specs.Prelude.{ℕ, List, length, Decides, refl}
 use Rattle.std.proofs.lemmas.Bool.{false≢true}
 use Rattle.game.specs.Sets.{Row}
 use Rattle.game.specs.Rules.{Rule, is_head}

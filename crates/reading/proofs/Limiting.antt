@@ -1,9 +1,9 @@
 -- Each step keeps the limits.
-use Rattle.std.proofs.Common.{◌≡◌, ℕ, ◌+◌, ◌<◌, ◌≤◌, Bool, true, false, cond, ◌&&◌, ltb, leb, List, [], ◌∷◌, ◌++◌, length, Some, None, Ok, Err, Option, Result, sym, refl, ap, ◌∙◌, subst, arith, length-append}
+use Rattle.std.proofs.Common.{◌≡◌, ℕ, ◌+◌, ◌<◌, ◌≤◌, Bool, true, false, cond, ◌&&◌, ltb, leb, List, [], ◌∷◌, ◌++◌, length, Some, None, Ok, Err, Option, Result, sym, refl, ap, ◌∙◌, subst, arith}
 use Rattle.std.proofs.lemmas.List.{length_push}
 use Rattle.std.proofs.lemmas.Bool.{ltb-true, leb-false, lt-ltb, true≢false, both_ways}
-use Rattle.game.specs.Rules.{Head, none, atom, Rule}
-use Rattle.programs.specs.Limits.{rule_fits, all_fit, fits}
+use Rattle.game.specs.Rules.{Rule}
+use Rattle.programs.specs.Limits.{fits}
 use Rattle.programs.proofs.Fitting.{Kept, kept, kept_fits, kept_more, below_push, all_fit_more, all_fit_push, fits_from}
 use Rattle.refusals.specs.declared.fault.Text.{Text}
 use Rattle.refusals.specs.declared.fault.Fault.{Fault}
@@ -11,7 +11,7 @@ use Rattle.refusals.specs.declared.fault.Fault.TheVariants.{ManyAtoms}
 use Rattle.reading.specs.declared.phase.Phase.{Phase}
 use Rattle.reading.specs.declared.phase.Phase.TheVariants.{Start, AfterHead, AfterArrow, AfterNot, AfterLiteral, AfterComma}
 use Rattle.reading.specs.Lexical.{Word, name, negation, arrow, comma, dot}
-use Rattle.reading.specs.Steps.{State, Standing, follow, opens_rule, before_literal, of_literal, index, entered, put, literals, named, taken, asked, step, no_rule, fresh}
+use Rattle.reading.specs.Steps.{State, Standing, follow, opens_rule, index, entered, put, literals, named, taken, asked, step, no_rule, fresh}
 use Rattle.reading.specs.Within.{Within}
 use Rattle.reading.proofs.Entering.{index_bound}
 use Rattle.reading.proofs.Stepping.{crowded, overfull}

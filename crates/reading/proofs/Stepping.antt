@@ -1,7 +1,6 @@
 -- The four ways of a step, in the order of its questions.
-use Rattle.std.proofs.Common.{◌≡◌, ℕ, Bool, true, false, cond, ◌&&◌, leb, length, Some, None, Ok, Err, Result, ap, ◌∙◌}
+use Rattle.std.proofs.Common.{◌≡◌, ℕ, Bool, true, false, cond, ◌&&◌, leb, length, Some, None, Err, ap, ◌∙◌}
 use Rattle.refusals.specs.declared.fault.Text.{Text}
-use Rattle.refusals.specs.declared.fault.Fault.{Fault}
 use Rattle.refusals.specs.declared.fault.Fault.TheVariants.{Misplaced, ManyRules, LongBody}
 use Rattle.reading.specs.declared.phase.Phase.{Phase}
 use Rattle.reading.specs.Lexical.{Word}

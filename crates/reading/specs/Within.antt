@@ -1,5 +1,5 @@
 -- What is read of a text keeps the limits.
-use Rattle.std.specs.Prelude.{◌≡◌, ℕ, ◌<◌, ◌≤◌, true, false, length}
+use Rattle.std.specs.Prelude.{◌≡◌, ◌<◌, ◌≤◌, true, false, length}
 use Rattle.programs.specs.Limits.{rule_fits, all_fit}
 use Rattle.reading.specs.declared.phase.Phase.TheVariants.{AfterNot}
 use Rattle.reading.specs.Steps.{State, opens_rule, literals}

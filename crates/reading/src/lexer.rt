@@ -66,7 +66,7 @@ fn word_at(text: Text, bytes: &[u8], at: usize) -> Result<(Token<'_>, usize), Fa
         return Err(Fault::LongName { text, at });
     }
     let word = &bytes[at..after];
-    if word == b"not" {
+    if word == b"not".as_slice() {
         return Ok((Token::Not, after));
     }
     Ok((Token::Name(word), after))

@@ -12,7 +12,7 @@ use Rattle.deciding.proofs.deciding.decide.Goals as goal
 
 pub returns-in_err-load : goal.returns-in_err-load
 returns-in_err-load c =
-    let p = err_from_is_err_and c.from-residual.result c.from-residual.ensures.1 in
+    let p = err_from_is_err_and c.from_residual.result c.from_residual.ensures.1 in
     let e = c.in_err-load.field-0.0 in
     let (memory, goes) = c.in_err-load.ensures in
     record {

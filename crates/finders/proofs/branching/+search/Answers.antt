@@ -1,4 +1,4 @@
-use Rattle.std.proofs.Common.{◌≡◌, ℕ, ◌<◌, true, false, set, replicate, sym, refl, ap, ◌∙◌, subst}
+use Rattle.std.proofs.Common.{ℕ, ◌<◌, true, false, set, replicate, sym, refl, ap, ◌∙◌, subst}
 use Rattle.finders.proofs.Maybe.{option_weaker}
 use Rattle.game.specs.Sets.{In, union}
 use Rattle.closure.specs.Rows.{marked, minus}

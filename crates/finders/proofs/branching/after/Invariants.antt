@@ -1,4 +1,4 @@
-use Rattle.std.proofs.Common.{◌≡◌, ◌≤◌}
+use Rattle.std.proofs.Common.{◌≤◌}
 use Rattle.programs.specs.Programs.{rules_of}
 use Rattle.finders.proofs.Turning.{NoneFrom}
 use Rattle.finders.proofs.branching.after.Given as goal

@@ -1,4 +1,4 @@
-use Rattle.std.proofs.Common.{length, arith}
+use Rattle.std.proofs.Common.{arith}
 use Rattle.closure.proofs.Marks.{in_below}
 use Rattle.finders.proofs.branching.lowest.Goals as goal
 

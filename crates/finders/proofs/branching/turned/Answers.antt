@@ -1,4 +1,4 @@
-use Rattle.std.proofs.Common.{◌≡◌, true, length, set, sym, ap, ◌∙◌, subst}
+use Rattle.std.proofs.Common.{true, length, set, sym, ap, ◌∙◌}
 use Rattle.game.specs.Sets.{union}
 use Rattle.closure.specs.Rows.{minus}
 use Rattle.finders.proofs.Turning.{Made, turned_from}

@@ -18,7 +18,7 @@ returns-in_err-set g c =
     let rules = rules_of c.args.program.now in
     let given = c.args.given.now.marks in
     let sets : (z : Row) → AnswerSet rules given z → SetOf c.args.heads.now.marks z = answer_set_of g.row.N rules given c.args.heads.now.marks c.args.given.now.wide c.requires.0 in
-    rw c.from-residual.ensures (upward_end c.loop-set.invariant sets (not_from_Decides c.is_answer_set.result c.is_answer_set.ensures c.loop-set-test.true) c.in_err-set.ensures)
+    rw c.from_residual.ensures (upward_end c.loop-set.invariant sets (not_from_Decides c.is_answer_set.result c.is_answer_set.ensures c.loop-set-test.true) c.in_err-set.ensures)
 
 pub loop-set-smaller : goal.loop-set-smaller
 loop-set-smaller g c = rises g.row.N c.loop-set.set.marks c.in_ok-set.set.marks c.loop-set.set.wide c.in_ok-set.set.wide c.in_ok-set.ensures.above

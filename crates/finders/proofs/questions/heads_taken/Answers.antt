@@ -1,4 +1,4 @@
-use Rattle.std.proofs.Common.{◌≡◌, sym, ◌∙◌, arith}
+use Rattle.std.proofs.Common.{sym, ◌∙◌, arith}
 use Rattle.std.proofs.lemmas.Bool.Decides.{not_from_Decides}
 use Rattle.programs.specs.Programs.{rules_of}
 use Rattle.finders.proofs.Jobs.{Seen, many_heads_from, given_head_from, taken_from}

@@ -1,4 +1,4 @@
-use Rattle.std.proofs.Common.{◌≡◌, suc, ◌+◌, true, false, not, eqb, get_or, drop, sym, ap, ◌∙◌, arith}
+use Rattle.std.proofs.Common.{◌≡◌, suc, ◌+◌, not, eqb, drop, sym, ap, ◌∙◌, arith}
 use Rattle.reading.specs.Classes.{blank}
 use Rattle.reading.specs.Lexical.{gap}
 use Rattle.reading.proofs.Lexing.{gap_off, gap_none, gap_inside, gap_percent, gap_blank}

@@ -1,6 +1,6 @@
-use Rattle.std.proofs.Common.{◌≡◌, suc, ◌+◌, cond, get_or, drop, sym, ap, ◌∙◌, subst, arith}
+use Rattle.std.proofs.Common.{◌≡◌, suc, ◌+◌, cond, drop, sym, ap, ◌∙◌, subst, arith}
 use Rattle.reading.specs.Classes.{small}
-use Rattle.reading.specs.Lexical.{Lexed, word, run, no_token, front}
+use Rattle.reading.specs.Lexical.{word, run, no_token, front}
 use Rattle.reading.specs.Tokens.{TellsAt, lexical_fault}
 use Rattle.reading.proofs.Lexing.{front_at, front_else}
 use Rattle.reading.proofs.lexer.token_at.Goals as goal

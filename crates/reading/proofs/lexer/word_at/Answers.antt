@@ -1,7 +1,5 @@
 use Rattle.std.proofs.Common.{◌≡◌, suc, ◌+◌, ◌-◌, false, take, drop, codes, sym, ap, ◌∙◌, arith}
 use Rattle.std.specs.Str.{bytes_eq}
-use Rattle.std.proofs.lemmas.Slice.Eq.{bytes_eq-Decides, slice_eq-Decides}
-use Rattle.std.proofs.lemmas.Bool.Decides.{same_from_decides, Decides-eqb}
 use Rattle.reading.specs.Lexical.{run}
 use Rattle.reading.proofs.Lexing.{word_name}
 use Rattle.reading.proofs.lexer.word_at.Goals as goal
@@ -13,8 +11,8 @@ returns c =
     let ends = c.skip_name-after.ensures.value in
     let size : c.skip_name-after.result - c.args.at ≡ n = omega (arith, ends) in
     let other : bytes_eq (take (c.skip_name-after.result - c.args.at) rest) (codes "not") ≡ false =
-    same_from_decides _ _ (bytes_eq-Decides _ _) (slice_eq-Decides Decides-eqb _ _ _ c.eq.ensures) ∙ c.if-eq.false in
+    ap (λ t. bytes_eq (take (c.skip_name-after.result - c.args.at) rest) t) (sym c.as_slice.ensures) ∙ (sym c.eq.ensures ∙ c.if-eq.false) in
     record {
-      tells = word_name c.args.at n c.skip_name-after.result rest (omega (arith, ends)) (omega (arith, size, c.if-after-at-gt-LONGEST-NAME.false)) (ap (λ k. bytes_eq (take k rest) (codes "not")) (sym size) ∙ other);
+      tells = word_name c.args.at n c.skip_name-after.result rest (omega (arith, ends)) (omega (arith, size, c.if-after-at-gt-LONGEST_NAME.false)) (ap (λ k. bytes_eq (take k rest) (codes "not")) (sym size) ∙ other);
       within = (omega arith, c.skip_name-after.ensures.within);
     }

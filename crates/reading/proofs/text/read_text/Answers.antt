@@ -4,7 +4,7 @@ use Rattle.std.proofs.lemmas.Result.{err_from_is_err_and}
 use Rattle.reading.specs.Lexical.{lexed}
 use Rattle.reading.specs.Tokens.{Tells, word_of, lexical_fault}
 use Rattle.reading.specs.Tables.{standing, standings_of}
-use Rattle.reading.specs.Steps.{fresh, step, ended, Reads, ends, no_word, refused, goes}
+use Rattle.reading.specs.Steps.{step, ended, Reads, ends, no_word, refused, goes}
 use Rattle.reading.specs.Sections.{Finishes}
 use Rattle.reading.specs.States.{state_of}
 use Rattle.reading.specs.Within.{Within}
@@ -24,14 +24,14 @@ loop-draft-init c =
 
 pub returns-in_err-spot : goal.returns-in_err-spot
 returns-in_err-spot c =
-    let p = err_from_is_err_and c.from-residual.result c.from-residual.ensures.1 in
+    let p = err_from_is_err_and c.from_residual.result c.from_residual.ensures.1 in
     let text = c.args.bytes.now in
     let t = c.new-draft.result.text in
     let lexer = c.loop-draft.lexer in
     let fault : lexical_fault t (lexed text lexer.at) ≡ Some p.0 =
     ap (λ u. lexical_fault u (lexed text lexer.at)) (sym c.loop-draft.invariant.0) ∙ ap (λ bs. lexical_fault lexer.text (lexed bs lexer.at)) (sym c.loop-draft.invariant.1) ∙ c.in_err-spot.ensures.tells ∙ ap Some (sym p.2) in
     let whole = as_fresh c.args.text text (standings_of c.args.atoms) t (state_of c.new-draft.result) (Err p.0) c.new-draft.ensures.text c.new-draft.ensures.state (c.loop-draft.invariant.4 (Err p.0) (no_word p.0 fault)) in
-    rw p.1 (inr (read_short c.args.text text (standings_of c.args.atoms) (Err p.0) c.if-bytes-gt-LONGEST-TEXT.false whole))
+    rw p.1 (inr (read_short c.args.text text (standings_of c.args.atoms) (Err p.0) c.if-bytes-gt-LONGEST_TEXT.false whole))
 
 pub loop-draft-preserved : goal.loop-draft-preserved
 loop-draft-preserved c =
@@ -51,7 +51,7 @@ loop-draft-preserved c =
 
 pub returns-in_err-take : goal.returns-in_err-take
 returns-in_err-take c =
-    let p = err_from_is_err_and c.from-residual-in_err-take.result c.from-residual-in_err-take.ensures.1 in
+    let p = err_from_is_err_and c.from_residual-in_err-take.result c.from_residual-in_err-take.ensures.1 in
     let text = c.args.bytes.now in
     let t = c.new-draft.result.text in
     let at = c.loop-draft.lexer.at in
@@ -59,11 +59,11 @@ returns-in_err-take c =
     let w = word_of c.in-Some.spot.token in
     let next = ap (λ bs. lexed bs at) (sym c.loop-draft.invariant.1) ∙ subst (λ o. Tells c.loop-draft.lexer.text (lexed c.loop-draft.lexer.bytes.now at) c.next.new.self.at (Ok o)) c.in-Some.is c.in_ok-spot.ensures.tells in
     rw p.1
-    (⊎_elim (λ none. inl (p.2 ∙ none, c.if-bytes-gt-LONGEST-TEXT.false))
+    (⊎_elim (λ none. inl (p.2 ∙ none, c.if-bytes-gt-LONGEST_TEXT.false))
     (λ fault.
     let step-fault : step t c.in-Some.spot.at d w ≡ Err p.0 = ap (λ u. step u c.in-Some.spot.at d w) (sym c.loop-draft.invariant.2) ∙ fault ∙ ap Err (sym p.2) in
     let whole = as_fresh c.args.text text (standings_of c.args.atoms) t (state_of c.new-draft.result) (Err p.0) c.new-draft.ensures.text c.new-draft.ensures.state (c.loop-draft.invariant.4 (Err p.0) (refused c.in-Some.spot.at c.next.new.self.at w p.0 next step-fault)) in
-    inr (read_short c.args.text text (standings_of c.args.atoms) (Err p.0) c.if-bytes-gt-LONGEST-TEXT.false whole))
+    inr (read_short c.args.text text (standings_of c.args.atoms) (Err p.0) c.if-bytes-gt-LONGEST_TEXT.false whole))
     c.in_err-take.ensures.state)
 
 pub returns : goal.returns
@@ -76,4 +76,4 @@ returns c =
     let before = standings_of c.args.atoms in
     let whole = as_fresh c.args.text text before t (state_of c.new-draft.result) (ended t (length text) d) c.new-draft.ensures.text c.new-draft.ensures.state (c.loop-draft.invariant.4 (ended t (length text) d) (ends next)) in
     let shown = subst (λ u. Finishes (ended u (length text) d) c.finish.result) c.loop-draft.invariant.2 c.finish.ensures in
-    finished c.args.text text before (ended t (length text) d) c.finish.result shown (read_short c.args.text text before (ended t (length text) d) c.if-bytes-gt-LONGEST-TEXT.false whole)
+    finished c.args.text text before (ended t (length text) d) c.finish.result shown (read_short c.args.text text before (ended t (length text) d) c.if-bytes-gt-LONGEST_TEXT.false whole)

@@ -12,7 +12,7 @@ returns-then-not-is_known c =
 
 pub returns-in_err-lines : goal.returns-in_err-lines
 returns-in_err-lines c =
-    let e = err_from_is_err_and c.from-residual-in_err-lines.result c.from-residual-in_err-lines.ensures.1 in
+    let e = err_from_is_err_and c.from_residual-in_err-lines.result c.from_residual-in_err-lines.ensures.1 in
     let none = starved c.args.plan.now c.args.faults.now c.args.site.now (three_of c.in_ok-texts.texts) c.in_ok-texts.ensures in
     rw e.1 (refl, inl (subst (λ x. ThreeGives c.args.plan.now c.args.faults.now c.args.site.now (Err x)) (sym (e.2 ∙ c.in_err-lines.ensures)) none))
 

@@ -8,7 +8,7 @@ use Rattle.book.proofs.book.Book.load.Goals as goal
 
 pub returns-in_err-open : goal.returns-in_err-open
 returns-in_err-open c =
-    let p = err_from_is_err_and c.from-residual.result c.from-residual.ensures.1 in
+    let p = err_from_is_err_and c.from_residual.result c.from_residual.ensures.1 in
     let b = book_of c.args.self.now in
     subst (λ r. LoadsTo c.args.side c.args.plan.now c.args.faults.now c.args.site.now b r b) (sym (p.1 ∙ ap Err p.2))
     (load_refusal c.args.side c.args.plan.now c.args.faults.now c.args.site.now b c.in_err-open.field-0.0 c.in_err-open.ensures)

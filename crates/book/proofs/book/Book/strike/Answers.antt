@@ -18,14 +18,14 @@ returns-in_default-shown c =
     let o = c.in-Some.open in
     at_open (λ b. Goes strike b (refused none_shown) (open_book o)) c.args.self.now.open o (sym c.take.ensures.value ∙ c.in-Some.is) (strike_none (texts_from o.loaded) refl (ap row_shown c.in_default-shown.is))
 
-pub returns-then-len-ge-MOST-STRUCK : goal.returns-then-len-ge-MOST-STRUCK
-returns-then-len-ge-MOST-STRUCK c =
+pub returns-then-len-ge-MOST_STRUCK : goal.returns-then-len-ge-MOST_STRUCK
+returns-then-len-ge-MOST_STRUCK c =
     let o = c.in-Some.open in
     at_open (λ b. Goes strike b (refused struck_full) (open_book o)) c.args.self.now.open o (sym c.take.ensures.value ∙ c.in-Some.is)
-    (strike_full (texts_from o.loaded) c.in-Some-shown.row.marks refl (ap row_shown c.in-Some-shown.is) (omega (arith, c.if-len-ge-MOST-STRUCK.true, c.len.ensures, o.struck.ok.0, length-map (vec_items o.struck) (λ (r : code.Row 96). r.marks))))
+    (strike_full (texts_from o.loaded) c.in-Some-shown.row.marks refl (ap row_shown c.in-Some-shown.is) (omega (arith, c.if-len-ge-MOST_STRUCK.true, c.len.ensures, o.struck.ok.0, length-map (vec_items o.struck) (λ (r : code.Row 96). r.marks))))
 
 pub returns : goal.returns
 returns c =
     let o = c.in-Some.open in
     at_open (λ b. Goes strike b done (open_book c.with_struck.result)) c.args.self.now.open o (sym c.take.ensures.value ∙ c.in-Some.is)
-    (subst (λ b. Goes strike (open_book o) done b) (sym c.with_struck.ensures) (strikes (texts_from o.loaded) c.in-Some-shown.row.marks refl (ap row_shown c.in-Some-shown.is) (omega (arith, c.if-len-ge-MOST-STRUCK.false, c.len.ensures, o.struck.ok.0, length-map (vec_items o.struck) (λ (r : code.Row 96). r.marks)))))
+    (subst (λ b. Goes strike (open_book o) done b) (sym c.with_struck.ensures) (strikes (texts_from o.loaded) c.in-Some-shown.row.marks refl (ap row_shown c.in-Some-shown.is) (omega (arith, c.if-len-ge-MOST_STRUCK.false, c.len.ensures, o.struck.ok.0, length-map (vec_items o.struck) (λ (r : code.Row 96). r.marks)))))

@@ -7,13 +7,13 @@ use Rattle.finders.proofs.counting.CountingFinder.next.Goals as goal
 
 pub returns-in_err-heads : goal.returns-in_err-heads
 returns-in_err-heads g c =
-    let p = err_from_is_err_and c.from-residual.result c.from-residual.ensures.1 in
+    let p = err_from_is_err_and c.from_residual.result c.from_residual.ensures.1 in
     rw (p.1, p.2)
     (refused_answers (counting g.row.N) (rules_of c.args.program.now) c.args.given.now.marks (from c.args.earlier) c.args.row.now.marks c.in_err-heads.field-0.0 c.in_err-heads.ensures)
 
 pub returns-in_err-found : goal.returns-in_err-found
 returns-in_err-found g c =
-    let p = err_from_is_err_and c.from-residual-in_err-found.result c.from-residual-in_err-found.ensures.1 in
+    let p = err_from_is_err_and c.from_residual-in_err-found.result c.from_residual-in_err-found.ensures.1 in
     rw (p.1, p.2)
     (unlisted_answers (counting g.row.N) (rules_of c.args.program.now) c.args.given.now.marks (from c.args.earlier) c.args.row.now.marks c.in_ok-heads.ensures.taken c.in_err-found.field-0.0 c.in_err-found.ensures)
 

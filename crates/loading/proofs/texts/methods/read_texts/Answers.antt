@@ -9,7 +9,7 @@ use Rattle.loading.proofs.texts.methods.read_texts.Goals as goal
 
 pub returns-in_err-plan : goal.returns-in_err-plan
 returns-in_err-plan c =
-    let e = err_from_is_err_and c.from-residual.result c.from-residual.ensures.1 in
+    let e = err_from_is_err_and c.from_residual.result c.from_residual.ensures.1 in
     let p = c.args.plan.now in
     let f = c.args.faults.now in
     let s = c.args.site.now in
@@ -17,7 +17,7 @@ returns-in_err-plan c =
 
 pub returns-in_err-faults : goal.returns-in_err-faults
 returns-in_err-faults c =
-    let e = err_from_is_err_and c.from-residual-in_err-faults.result c.from-residual-in_err-faults.ensures.1 in
+    let e = err_from_is_err_and c.from_residual-in_err-faults.result c.from_residual-in_err-faults.ensures.1 in
     let p = c.args.plan.now in
     let f = c.args.faults.now in
     let s = c.args.site.now in
@@ -25,7 +25,7 @@ returns-in_err-faults c =
 
 pub returns-in_err-site : goal.returns-in_err-site
 returns-in_err-site c =
-    let e = err_from_is_err_and c.from-residual-in_err-site.result c.from-residual-in_err-site.ensures.1 in
+    let e = err_from_is_err_and c.from_residual-in_err-site.result c.from_residual-in_err-site.ensures.1 in
     let p = c.args.plan.now in
     let f = c.args.faults.now in
     let s = c.args.site.now in

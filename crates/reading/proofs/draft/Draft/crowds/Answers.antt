@@ -1,4 +1,4 @@
-use Rattle.std.proofs.Common.{◌≡◌, ◌&&◌, leb, length, vec_items, sym, ap, ◌∙◌, arith}
+use Rattle.std.proofs.Common.{◌≡◌, ◌&&◌, leb, length, vec_items, ap, ◌∙◌, arith}
 use lib.ListN.{length-map}
 use Rattle.programs.specs.Model.{model, models}
 use Rattle.reading.proofs.draft.Draft.crowds.Goals as goal

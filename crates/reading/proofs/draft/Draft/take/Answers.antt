@@ -1,4 +1,4 @@
-use Rattle.std.proofs.Common.{sym, refl, ap, subst, inr}
+use Rattle.std.proofs.Common.{sym, refl, subst, inr}
 use Rattle.reading.specs.Tokens.{word_of}
 use Rattle.reading.specs.States.{state_of, Took}
 use Rattle.reading.proofs.Stepping.{step_misplaced, step_crowded, step_overfull, step_taken}

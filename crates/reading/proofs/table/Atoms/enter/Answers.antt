@@ -1,4 +1,4 @@
-use Rattle.std.proofs.Common.{◌≡◌, ◌<◌, ◌≤◌, [], ◌∷◌, ◌++◌, map, length, Ok, Err, vec_items, sym, refl, ap, ◌∙◌, inl, inr, arith}
+use Rattle.std.proofs.Common.{◌≡◌, [], ◌∷◌, Ok, vec_items, sym, refl, ap, ◌∙◌, inr, arith}
 use lib.ListN.{length-map}
 use Rattle.std.proofs.lemmas.List.{map_push}
 use Rattle.std.proofs.lemmas.Slice.{pushed}
@@ -7,10 +7,10 @@ use Rattle.reading.specs.Steps.{index, entered}
 use Rattle.reading.specs.Tables.{standing, standings, standings_of}
 use Rattle.reading.proofs.Entering.{index_bound, entered_known, entered_new, entered_full}
 use Rattle.reading.proofs.table.Atoms.enter.Goals as goal
-use Rattle.reading.proofs.table.Atoms.enter.Goals.{then-number-len+else-number-ge-MOST-ATOMS+in_ok-push, else-number-len}
+use Rattle.reading.proofs.table.Atoms.enter.Goals.{then-number-len+else-number-ge-MOST_ATOMS+in_ok-push, else-number-len}
 
-pub returns-then-number-ge-MOST-ATOMS : goal.returns-then-number-ge-MOST-ATOMS
-returns-then-number-ge-MOST-ATOMS c =
+pub returns-then-number-ge-MOST_ATOMS : goal.returns-then-number-ge-MOST_ATOMS
+returns-then-number-ge-MOST_ATOMS c =
     let old = vec_items c.args.self.now.entries in
     let long = length-map old standing in
     let held = c.args.self.now.entries.ok.0 in
@@ -35,7 +35,7 @@ returns c =
     let entry : Atom = record { text = c.args.text; at = c.args.at; name = c.args.name } in
     let took : entered c.args.text c.args.at c.args.name.now (standings old) ≡ Ok (standings_of c.if-number-len.self) =
     elim c.if-number-len.branch [
-      | then-number-len+else-number-ge-MOST-ATOMS+in_ok-push w ↦
+      | then-number-len+else-number-ge-MOST_ATOMS+in_ok-push w ↦
           entered_new c.args.text c.args.at c.args.name.now (standings old) (omega (arith, long, held, found)) (omega (arith, long, held))
           ∙ ap Ok (sym (ap standings_of w.self-is ∙ ap standings (pushed {was = old} {xs = old} (entry ∷ []) refl w.in_ok-push.was w.push.ensures.items) ∙ map_push standing old entry))
       | else-number-len w ↦ entered_known c.args.text c.args.at c.args.name.now (standings old) (omega (arith, long, held, found, bound)) ∙ ap Ok (sym (ap standings_of w.self-is))

@@ -1,17 +1,15 @@
-use Rattle.std.proofs.Common.{◌∙◌, arith}
-use Rattle.std.proofs.lemmas.Slice.Eq.{bytes_eq-Decides, slice_eq-Decides}
-use Rattle.std.proofs.lemmas.Bool.Decides.{same_from_decides, Decides-eqb}
+use Rattle.std.proofs.Common.{◌∙◌, sym, arith}
 use Rattle.reading.proofs.Entering.{index_here, index_on, index_none}
 use Rattle.reading.proofs.table.methods.find.Goals as goal
 
 pub returns-then-eq : goal.returns-then-eq
 returns-then-eq c =
-    let here = index_here c.args.name.now c.args.entries.now c.loop-i.i _ c.loop-i-test.true (same_from_decides _ _ (bytes_eq-Decides _ _) (slice_eq-Decides Decides-eqb _ _ _ c.eq.ensures) ∙ c.if-eq.true) in
+    let here = index_here c.args.name.now c.args.entries.now c.loop-i.i _ c.loop-i-test.true (sym c.eq.ensures ∙ c.if-eq.true) in
     omega (arith, here, c.loop-i.invariant)
 
 pub loop-i-preserved : goal.loop-i-preserved
 loop-i-preserved c =
-    let on = index_on c.args.name.now c.args.entries.now c.loop-i.i _ c.loop-i-test.true (same_from_decides _ _ (bytes_eq-Decides _ _) (slice_eq-Decides Decides-eqb _ _ _ c.eq.ensures) ∙ c.if-eq.false) in
+    let on = index_on c.args.name.now c.args.entries.now c.loop-i.i _ c.loop-i-test.true (sym c.eq.ensures ∙ c.if-eq.false) in
     omega (arith, on, c.loop-i.invariant)
 
 pub returns : goal.returns
