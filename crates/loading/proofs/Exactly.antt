@@ -1,5 +1,5 @@
 -- What is read is what the format allows.
-use Rattle.std.proofs.Common.{◌≡◌, ℕ, List, Ok, Err, Result, inl, inr, ⊎_elim}
+use Rattle.std.proofs.Common.{ℕ, List, Ok, Err, Result, inl, inr, ⊎_elim}
 use Rattle.refusals.specs.declared.fault.Fault.{Fault}
 use Rattle.grammar.proofs.Loading.{loaded_is_allowed, allowed_is_loaded}
 use Rattle.grammar.proofs.Outcomes.{one_loading}

@@ -2,7 +2,7 @@
 use Rattle.std.proofs.Common.{◌≡◌, ℕ, ◌+◌, ◌<◌, ◌≤◌, Bool, true, false, cond, ◌||◌, List, [], ◌∷◌, ◌++◌, length, get_or, drop, Some, None, Option, sym, refl, ap, ◌∙◌}
 use lib.ListN.{length-map}
 use Rattle.std.proofs.lemmas.List.{drop_more, at_drop_all}
-use Rattle.game.specs.Rules.{Head, Rule, in_rule, stands}
+use Rattle.game.specs.Rules.{Rule, in_rule, stands}
 use Rattle.programs.specs.declared.rule.Rule as code
 use Rattle.programs.specs.Model.{model, models}
 use Rattle.reading.specs.Loads.{head_in, taken_head}

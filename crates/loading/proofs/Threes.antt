@@ -1,5 +1,5 @@
 -- From the readings of the three texts, one after another, to the reading of all.
-use Rattle.std.proofs.Common.{◌≡◌, ℕ, ◌≤◌, true, ◌⊎◌, List, [], length, Ok, Err, Result, sym, refl, ap, ◌∙◌, subst, inl, inr, ⊎_elim, arith}
+use Rattle.std.proofs.Common.{◌≡◌, ℕ, ◌≤◌, true, ◌⊎◌, List, [], length, Ok, Err, Result, sym, ap, ◌∙◌, subst, inl, inr, ⊎_elim, arith}
 use Rattle.programs.specs.Limits.{all_fit}
 use Rattle.programs.proofs.Fitting.{all_fit_more}
 use Rattle.refusals.specs.declared.fault.Text.{Text}
@@ -9,7 +9,7 @@ use Rattle.refusals.specs.declared.fault.Fault.TheVariants.{NoMemory}
 use Rattle.reading.specs.declared.section.Section.{Section}
 use Rattle.reading.specs.declared.table.Atoms.{Atoms}
 use Rattle.reading.specs.Steps.{State, Standing, TextRead}
-use Rattle.reading.specs.Loads.{Part, Three, part, three, ThreeRead, plan_refused, faults_refused, site_refused, all_read}
+use Rattle.reading.specs.Loads.{three, ThreeRead, plan_refused, faults_refused, site_refused, all_read}
 use Rattle.reading.specs.Sections.{part_of, Shows, Gives}
 use Rattle.reading.specs.Tables.{standings_of}
 use Rattle.reading.proofs.Growing.{text_longer}

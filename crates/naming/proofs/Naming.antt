@@ -1,7 +1,6 @@
 -- From the code's table of atoms to the name of a number.
 use Rattle.std.proofs.Common.{◌≡◌, ℕ, ◌<◌, ◌≤◌, List, length, get_or, Some, Ok, sym, ap, ◌∙◌, subst, arith}
 use lib.ListN.{length-map}
-use Rattle.std.specs.List.{slice_get}
 use Rattle.std.proofs.ByRecursion.{All-get_or}
 use Rattle.std.proofs.lemmas.List.{get_or-map}
 use Rattle.std.proofs.lemmas.Option.{slice_get-get_or}

@@ -6,7 +6,6 @@ use Rattle.refusals.specs.declared.fault.Text.{Text}
 use Rattle.refusals.specs.declared.fault.Text.TheVariants.{Plan, Faults, Site}
 use Rattle.refusals.specs.declared.fault.Fault.{Fault}
 use Rattle.reading.specs.Lexical.{name, lexed, token}
-use Rattle.reading.specs.Steps.{Standing}
 use Rattle.reading.specs.Loads.{Three, ThreeRead, plan_refused, faults_refused, site_refused, all_read}
 use Rattle.reading.proofs.Growing.{text_all}
 use Rattle.reading.proofs.Limiting.{err_ok, ok_same}

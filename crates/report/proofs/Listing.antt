@@ -1,5 +1,5 @@
 -- The lines of the marked atoms, one atom at a time.
-use Rattle.std.proofs.Common.{◌≡◌, ℕ, ◌+◌, ◌<◌, ◌≤◌, Bool, true, false, cond, List, [], ◌∷◌, ◌++◌, length, get_or, drop, codes, sym, refl, ap, ◌∙◌, ap₂, append_assoc, append-nil, add-zero}
+use Rattle.std.proofs.Common.{◌≡◌, ℕ, ◌+◌, ◌<◌, ◌≤◌, Bool, true, false, cond, List, [], ◌∷◌, ◌++◌, length, get_or, drop, codes, sym, refl, ap, ◌∙◌, ap₂, append_assoc, add-zero}
 use Rattle.std.proofs.lemmas.List.{drop_more, drop-drop, get_or-drop, at_drop_all}
 use Rattle.reading.specs.declared.table.Atom.{Atom}
 use Rattle.reading.specs.Steps.{Standing}

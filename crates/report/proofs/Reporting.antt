@@ -1,5 +1,5 @@
 -- From what the parts of the report's call say of the code's table of atoms to what the call promises of the texts.
-use Rattle.std.proofs.Common.{◌≡◌, ℕ, ◌≤◌, Bool, true, false, List, [], length, Ok, Err, Decides, Option, Result, sym, refl, ap, ◌∙◌, subst, inl, inr, MatchResult}
+use Rattle.std.proofs.Common.{◌≡◌, ℕ, ◌≤◌, Bool, false, List, [], length, Ok, Err, Decides, Option, Result, sym, refl, ap, ◌∙◌, subst, inl, inr, MatchResult}
 use lib.ListN.{length-map}
 use Rattle.std.proofs.lemmas.Bool.{both_ways}
 use Rattle.closure.specs.declared.row.Row.{Row}

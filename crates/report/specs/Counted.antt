@@ -1,5 +1,5 @@
 -- The four lines that tell how much was read.
-use Rattle.std.specs.Prelude.{ℕ, List, [], ◌∷◌, ◌++◌, length, codes, decimal}
+use Rattle.std.specs.Prelude.{ℕ, List, ◌++◌, length, codes, decimal}
 use Rattle.reading.specs.Loads.{Three}
 
 abbrev pub lines : ℕ → ℕ → ℕ → ℕ → List ℕ

@@ -1,4 +1,4 @@
-use Rattle.std.proofs.Common.{◌≡◌, sym, ap, ◌∙◌, arith}
+use Rattle.std.proofs.Common.{sym, ap, ◌∙◌, arith}
 use Rattle.programs.specs.Model.{head_model}
 use Rattle.reading.specs.Loads.{head_in}
 use Rattle.loading.specs.Earlier.{earlier}

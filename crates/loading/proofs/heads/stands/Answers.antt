@@ -1,6 +1,5 @@
-use Rattle.std.proofs.Common.{◌≡◌, ◌||◌, Some, sym, ap, ◌∙◌}
+use Rattle.std.proofs.Common.{◌||◌, sym, ap, ◌∙◌}
 use Rattle.game.specs.Rules.{stands}
-use Rattle.programs.specs.declared.rule.Head.TheVariants.{Atom}
 use Rattle.programs.specs.Model.{head_model}
 use Rattle.programs.specs.Programs.{rules_of}
 use Rattle.reading.specs.Loads.{head_in}

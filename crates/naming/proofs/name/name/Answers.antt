@@ -1,6 +1,6 @@
-use Rattle.std.proofs.Common.{◌≡◌, refl, ap, ◌∙◌, inr}
+use Rattle.std.proofs.Common.{refl, ap, ◌∙◌, inr}
 use Rattle.loading.specs.Read.{three_of}
-use Rattle.reading.specs.Tables.{standing, standings}
+use Rattle.reading.specs.Tables.{standings}
 use Rattle.naming.proofs.Naming.{beyond, names}
 use Rattle.naming.proofs.name.name.Goals as goal
 

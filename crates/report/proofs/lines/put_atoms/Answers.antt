@@ -1,4 +1,4 @@
-use Rattle.std.proofs.Common.{◌≡◌, [], ◌++◌, vec_items, sym, ap, ◌∙◌, append-nil, arith}
+use Rattle.std.proofs.Common.{[], ◌++◌, vec_items, sym, ap, ◌∙◌, append-nil}
 use Rattle.refusals.specs.declared.fault.Text.TheVariants.{Plan}
 use Rattle.reading.specs.declared.table.Atom.{Atom}
 use Rattle.report.proofs.Listing.{marked, unmarked, none_left, put_line, skip_line}

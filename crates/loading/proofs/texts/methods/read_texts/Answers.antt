@@ -35,7 +35,7 @@ pub invariant_of-result : goal.invariant_of-result
 invariant_of-result c =
     let chain : Chain c.args.plan.now c.args.faults.now c.args.site.now c.in_ok-plan.plan c.in_ok-plan.atoms c.in_ok-faults.faults c.in_ok-faults.atoms c.in_ok-site.site c.in_ok-site.atoms =
     record { plan = record { none = standings_of c.new-atoms.result; empty = c.new-atoms.ensures; ran = c.in_ok-plan.ensures }; faults = c.in_ok-faults.ensures; site = c.in_ok-site.ensures } in
-    (plan_below chain, (faults_below chain, (site_below chain, tt)))
+    record { plan_below = plan_below chain; faults_below = faults_below chain; site_below = site_below chain }
 
 pub returns : goal.returns
 returns c =
