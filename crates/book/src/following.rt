@@ -2,7 +2,7 @@
 ghost use Rattle.std.specs.Prelude.{◌≡◌};
 ghost use Rattle.programs.specs.Programs.{rules_of};
 ghost use Rattle.finders.specs.Asked.{from};
-ghost use Rattle.finders.specs.Going.{Goes_on};
+ghost use Rattle.finders.specs.Going.{GoesOn};
 ghost use Rattle.finders.specs.Meanings.{Listed, Taken};
 ghost use Rattle.book.specs.Models.{on_from};
 
@@ -18,7 +18,7 @@ fn entry_from<F: Finder<96>>(
     earlier: Option<&Row<96>>,
 ) -> Option<Row<96>>
     requires { (Taken 96 (F.meaning finder.now).most (rules_of program.now) given.now.marks) × (Listed ((F.meaning finder.now).order (rules_of program.now) given.now.marks) (from earlier)) }
-    ensures { Goes_on ((F.meaning finder.now).order (rules_of program.now) given.now.marks) (from earlier.entry) result }
+    ensures { GoesOn ((F.meaning finder.now).order (rules_of program.now) given.now.marks) (from earlier.entry) result }
 {
     let mut row = Row::clear();
     let Ok(found) = finder.next(program, given, earlier, &mut row) else {
@@ -38,7 +38,7 @@ pub(crate) fn following<F: Finder<96>>(
     earlier: Option<Row<96>>,
 ) -> Option<Row<96>>
     requires { (Taken 96 (F.meaning finder.now).most (rules_of program.now) given.now.marks) × (Listed ((F.meaning finder.now).order (rules_of program.now) given.now.marks) (on_from earlier)) }
-    ensures { Goes_on ((F.meaning finder.now).order (rules_of program.now) given.now.marks) (on_from earlier) result }
+    ensures { GoesOn ((F.meaning finder.now).order (rules_of program.now) given.now.marks) (on_from earlier) result }
 {
     let mut entry = Row::clear();
     let mut place = None;

@@ -10,7 +10,7 @@ use Rattle.finders.specs.declared.finder.Refusal.TheVariants.{Unlisted}
 use Rattle.finders.specs.Meanings.{From, start, after}
 use Rattle.finders.specs.Orders.{Lower, counting_order}
 use Rattle.finders.specs.Supplied.{counting_lists}
-use Rattle.finders.specs.Going.{Goes_on, NotListed, not_listed}
+use Rattle.finders.specs.Going.{GoesOn, NotListed, not_listed}
 use Rattle.finders.specs.Upward.{HeadsAre, SetOf, UpFrom, Next, Last, First, NoneFrom}
 use Rattle.finders.proofs.Sorted.{first_entry, first_end, next_entry, next_end}
 use Rattle.finders.proofs.Binary.{never_both, counting_sorted, clear_below}
@@ -39,31 +39,31 @@ module _ (n : ℕ) (rules : List Rule) (given hs : Row) (given_wide : length giv
   up : (z : Row) → AnswerSet rules given z → UpFrom (replicate n false) z
   up z answer = clear_up n z (answer.width ∙ given_wide)
 
-  pub goes_from_start : (s : Row) → s ≡ replicate n false → (at : From) → at ≡ start → (found : Option (code.Row n)) → FirstOrNone rules given s found → Goes_on (counting_order rules given) at found
+  pub goes_from_start : (s : Row) → s ≡ replicate n false → (at : From) → at ≡ start → (found : Option (code.Row n)) → FirstOrNone rules given s found → GoesOn (counting_order rules given) at found
   goes_from_start s clear at begin found f =
-      subst (λ (a : From). Goes_on (counting_order rules given) a found) (sym begin) (go found (subst (λ (r : Row). FirstOrNone rules given r found) clear f))
+      subst (λ (a : From). GoesOn (counting_order rules given) a found) (sym begin) (go found (subst (λ (r : Row). FirstOrNone rules given r found) clear f))
     where
-      go : (found : Option (code.Row n)) → FirstOrNone rules given (replicate n false) found → Goes_on (counting_order rules given) start found
+      go : (found : Option (code.Row n)) → FirstOrNone rules given (replicate n false) found → GoesOn (counting_order rules given) start found
       go None none = first_end Lower never_both (AnswerSet rules given) _ (counting_sorted rules given) (counting_lists rules given) (λ z answer. none z answer (up z answer))
       go (Some y) f = first_entry Lower never_both (AnswerSet rules given) _ (counting_sorted rules given) (counting_lists rules given) y.marks f.answer (λ z answer. same_or y.marks z (f.least z answer (up z answer)))
 
   module _ (at : From) (x : Row) (later : at ≡ after x) where
-    there : (found : Option (code.Row n)) → Goes_on (counting_order rules given) (after x) found → Goes_on (counting_order rules given) at found
-    there found on = subst (λ (a : From). Goes_on (counting_order rules given) a found) (sym later) on
+    there : (found : Option (code.Row n)) → GoesOn (counting_order rules given) (after x) found → GoesOn (counting_order rules given) at found
+    there found on = subst (λ (a : From). GoesOn (counting_order rules given) a found) (sym later) on
 
     pub goes_unlisted : (AnswerSet rules given x → ⊥) → NotListed (counting_order rules given) at Unlisted
     goes_unlisted none = not_listed x later (λ has. none ((counting_lists rules given).only x has))
 
     module _ (is : AnswerSet rules given x) where
-      pub goes_on : (s : Row) → Next hs x s → (found : Option (code.Row n)) → FirstOrNone rules given s found → Goes_on (counting_order rules given) at found
+      pub goes_on : (s : Row) → Next hs x s → (found : Option (code.Row n)) → FirstOrNone rules given s found → GoesOn (counting_order rules given) at found
       goes_on s next found f = there found (go found f)
         where
-          go : (found : Option (code.Row n)) → FirstOrNone rules given s found → Goes_on (counting_order rules given) (after x) found
+          go : (found : Option (code.Row n)) → FirstOrNone rules given s found → GoesOn (counting_order rules given) (after x) found
           go None none = next_end Lower never_both (AnswerSet rules given) _ (counting_sorted rules given) (counting_lists rules given) x is (λ z answer less. none z answer (next.least z (sets z answer) less))
           go (Some y) f =
               next_entry Lower never_both (AnswerSet rules given) _ (counting_sorted rules given) (counting_lists rules given) x y.marks is f.answer
               (lower_up x s y.marks next.above f.from)
               (λ z answer less. same_or y.marks z (f.least z answer (next.least z (sets z answer) less)))
 
-      pub goes_to_end : Last hs x → Goes_on {n = n} (counting_order rules given) at None
+      pub goes_to_end : Last hs x → GoesOn {n = n} (counting_order rules given) at None
       goes_to_end last = there None (next_end Lower never_both (AnswerSet rules given) _ (counting_sorted rules given) (counting_lists rules given) x is (λ z answer less. last z (sets z answer) less))

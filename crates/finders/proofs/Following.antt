@@ -11,7 +11,7 @@ use Rattle.finders.specs.Jobs.{HeadsTaken}
 use Rattle.finders.specs.Orders.{Lexical, branching_order}
 use Rattle.finders.specs.Supplied.{branching_lists}
 use Rattle.finders.specs.Between.{Between, First, Follows}
-use Rattle.finders.specs.Going.{Goes_on, NotListed, not_listed}
+use Rattle.finders.specs.Going.{GoesOn, NotListed, not_listed}
 use Rattle.finders.proofs.Sorted.{first_entry, first_end, next_entry, next_end}
 use Rattle.finders.proofs.Lexical.{never_both, branching_sorted}
 use Rattle.finders.proofs.Turning.{made_of_heads}
@@ -29,10 +29,10 @@ module _ (n most : ℕ) (rules : List Rule) (given heads : Row) (known : HeadsTa
     below = λ j h. subst (In j) (sym e) (⊎_elim (λ own. union_right given heads j (made_of_heads n most rules given heads known z answer j own)) (union_left given heads j) (in_union z given j h));
   }
 
-  pub goes_from_start : (high : Row) → high ≡ union given heads → (at : From) → at ≡ start → (found : Option (code.Row n)) → FirstOrNone (Between rules given given high) found → Goes_on (branching_order rules given) at found
-  goes_from_start high e at begin found f = subst (λ (a : From). Goes_on (branching_order rules given) a found) (sym begin) (go found f)
+  pub goes_from_start : (high : Row) → high ≡ union given heads → (at : From) → at ≡ start → (found : Option (code.Row n)) → FirstOrNone (Between rules given given high) found → GoesOn (branching_order rules given) at found
+  goes_from_start high e at begin found f = subst (λ (a : From). GoesOn (branching_order rules given) a found) (sym begin) (go found f)
     where
-      go : (found : Option (code.Row n)) → FirstOrNone (Between rules given given high) found → Goes_on (branching_order rules given) start found
+      go : (found : Option (code.Row n)) → FirstOrNone (Between rules given given high) found → GoesOn (branching_order rules given) start found
       go None none = first_end Lexical never_both (AnswerSet rules given) _ (branching_sorted rules given) (branching_lists rules given) (λ z answer. none z (all_between high e z answer))
       go (Some x) f = first_entry Lexical never_both (AnswerSet rules given) _ (branching_sorted rules given) (branching_lists rules given) x.marks f.is.answer (λ z answer. f.least z (all_between high e z answer))
 
@@ -40,9 +40,9 @@ module _ (n : ℕ) (rules : List Rule) (given : Row) (at : From) (x : Row) (late
   pub goes_unlisted : (AnswerSet rules given x → ⊥) → NotListed (branching_order rules given) at Unlisted
   goes_unlisted none = not_listed x later (λ has. none ((branching_lists rules given).only x has))
 
-  pub goes_on : AnswerSet rules given x → (found : Option (code.Row n)) → FirstOrNone (Follows rules given x) found → Goes_on (branching_order rules given) at found
-  goes_on is found f = subst (λ (a : From). Goes_on (branching_order rules given) a found) (sym later) (go found f)
+  pub goes_on : AnswerSet rules given x → (found : Option (code.Row n)) → FirstOrNone (Follows rules given x) found → GoesOn (branching_order rules given) at found
+  goes_on is found f = subst (λ (a : From). GoesOn (branching_order rules given) a found) (sym later) (go found f)
     where
-      go : (found : Option (code.Row n)) → FirstOrNone (Follows rules given x) found → Goes_on (branching_order rules given) (after x) found
+      go : (found : Option (code.Row n)) → FirstOrNone (Follows rules given x) found → GoesOn (branching_order rules given) (after x) found
       go None none = next_end Lexical never_both (AnswerSet rules given) _ (branching_sorted rules given) (branching_lists rules given) x is (λ z answer less. none z (record { answer = answer; later = less }))
       go (Some y) f = next_entry Lexical never_both (AnswerSet rules given) _ (branching_sorted rules given) (branching_lists rules given) x y.marks is f.is.answer f.is.later (λ z answer less. f.least z (record { answer = answer; later = less }))

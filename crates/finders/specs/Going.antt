@@ -10,9 +10,9 @@ use Rattle.finders.specs.declared.finder.Refusal.TheVariants.{Unlisted}
 use Rattle.finders.specs.Meanings.{From, after, Rest}
 
 -- the set comes next on the list, or the list is at its end
-abbrev pub Goes_on : {n : ℕ} → List Row → From → Option (code.Row n) → Type 0
-Goes_on xs at None = Rest xs at []
-Goes_on xs at (Some set) = (rest : List Row) × Rest xs at (set.marks ∷ rest)
+abbrev pub GoesOn : {n : ℕ} → List Row → From → Option (code.Row n) → Type 0
+GoesOn xs at None = Rest xs at []
+GoesOn xs at (Some set) = (rest : List Row) × Rest xs at (set.marks ∷ rest)
 
 -- the earlier entry is not on the list
 pub data NotListed (xs : List Row) (at : From) : Refusal → Type 0 where

@@ -7,7 +7,7 @@ ghost use Rattle.game.specs.Sets.{Row as Marks, In, Within};
 ghost use Rattle.programs.specs.Programs.{rules_of};
 ghost use Rattle.finders.specs.Between.{Between, First, Follows, Lowest, Turned};
 ghost use Rattle.finders.specs.Asked.{from};
-ghost use Rattle.finders.specs.Going.{Goes_on, NotListed};
+ghost use Rattle.finders.specs.Going.{GoesOn, NotListed};
 ghost use Rattle.finders.specs.Jobs.{HeadsTaken};
 ghost use Rattle.finders.specs.Orders.{branching_order};
 ghost use Rattle.finders.specs.Supplied.{branching};
@@ -127,7 +127,7 @@ fn first_after<'x>(
     earlier: Option<&Row<96>>,
 ) -> Result<Option<Row<96>>, Refusal>
     requires { HeadsTaken 96 96 (rules_of program.now) given.now.marks heads.now.marks }
-    ensures { MatchResult result (Goes_on (branching_order (rules_of program.now) given.now.marks) (from earlier.entry)) (NotListed (branching_order (rules_of program.now) given.now.marks) (from earlier.entry)) }
+    ensures { MatchResult result (GoesOn (branching_order (rules_of program.now) given.now.marks) (from earlier.entry)) (NotListed (branching_order (rules_of program.now) given.now.marks) (from earlier.entry)) }
 {
     let Some(entry) = earlier else {
         let whole = Bounds {

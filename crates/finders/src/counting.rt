@@ -2,7 +2,7 @@
 ghost use Rattle.std.specs.Option.{MatchOption};
 ghost use Rattle.std.specs.Result.{MatchResult};
 ghost use Rattle.finders.specs.Asked.{from};
-ghost use Rattle.finders.specs.Going.{Goes_on, NotListed};
+ghost use Rattle.finders.specs.Going.{GoesOn, NotListed};
 ghost use Rattle.finders.specs.Orders.{counting_order};
 ghost use Rattle.finders.specs.Supplied.{counting};
 ghost use Rattle.finders.specs.Upward.{HeadsAre, SetOf, Next, Last, First, NoneFrom};
@@ -56,7 +56,7 @@ fn first_after<const N: usize>(
     earlier: Option<&Row<N>>,
 ) -> Result<Option<Row<N>>, Refusal>
     requires { HeadsAre N (rules_of program.now) heads.now.marks }
-    ensures { MatchResult result (Goes_on (counting_order (rules_of program.now) given.now.marks) (from earlier.entry)) (NotListed (counting_order (rules_of program.now) given.now.marks) (from earlier.entry)) }
+    ensures { MatchResult result (GoesOn (counting_order (rules_of program.now) given.now.marks) (from earlier.entry)) (NotListed (counting_order (rules_of program.now) given.now.marks) (from earlier.entry)) }
 {
     let Some(entry) = earlier else {
         return Ok(first_from(program, given, heads, Row::clear()));

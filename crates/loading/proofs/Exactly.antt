@@ -4,7 +4,7 @@ use Rattle.refusals.specs.declared.fault.Fault.{Fault}
 use Rattle.grammar.proofs.Loading.{loaded_is_allowed, allowed_is_loaded}
 use Rattle.grammar.proofs.Outcomes.{one_loading}
 use Rattle.reading.proofs.Limiting.{err_ok}
-use Rattle.loading.specs.declared.game.Game.{Game}
+use Rattle.loading.specs.declared.games.Game.{Game}
 use Rattle.loading.specs.Sided.{side_of}
 use Rattle.loading.specs.Read.{three_of}
 use Rattle.loading.specs.Loaded.{GameGives, AllowedExactly}

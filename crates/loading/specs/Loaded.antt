@@ -5,7 +5,7 @@ use Rattle.refusals.specs.declared.fault.Fault.TheVariants.{NoMemory}
 use Rattle.game.specs.Sides.{Side, side_number}
 use Rattle.reading.specs.Loads.{Loads}
 use Rattle.grammar.specs.Loaded.{Sources, Allowed, Meant}
-use Rattle.loading.specs.declared.game.Game.{Game}
+use Rattle.loading.specs.declared.games.Game.{Game}
 use Rattle.loading.specs.Sided.{side_of}
 use Rattle.loading.specs.Read.{three_of}
 

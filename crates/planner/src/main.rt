@@ -1,7 +1,7 @@
 // Reads a site's three texts from the current folder, and tells what was read or why it was refused.
 #![tactic(auto)]
 
-use loading::game::read_game;
+use loading::games::read_game;
 use refusals::fault::Fault;
 use refusals::line::refusal_line;
 use report::input::side_asked;

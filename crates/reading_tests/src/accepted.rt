@@ -1,5 +1,5 @@
 // What is read of texts that are not refused.
-use loading::game::read_game;
+use loading::games::read_game;
 use loading::side::Side;
 use programs::rule::Head;
 use reading::section::Section;

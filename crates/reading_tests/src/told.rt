@@ -1,5 +1,5 @@
 // What a load says of a side and three texts.
-use loading::game::read_game;
+use loading::games::read_game;
 use std::alloc::Global;
 use std::process::Abort;
 

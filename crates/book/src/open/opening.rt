@@ -1,6 +1,6 @@
 // How a load opens a book.
 ghost use Rattle.std.specs.Prelude.{◌≡◌, MatchResult};
-ghost use Rattle.game.specs.Strata.{Stratified as Is-stratified};
+ghost use Rattle.game.specs.Strata.{Stratified as IsStratified};
 ghost use Rattle.loading.specs.Read.{three_of};
 ghost use Rattle.loading.specs.Sided.{side_of};
 ghost use Rattle.runs.proofs.Readable.{Readable};
@@ -10,14 +10,14 @@ ghost use Rattle.book.specs.Opened.{Opens};
 
 use super::Open;
 use crate::loaded::Loaded;
-use loading::game::{Game, read_game};
+use loading::games::{Game, read_game};
 use refusals::fault::Fault;
 use solving::stratified::Stratified;
 use std::alloc::Global;
 
 // The side and the programs of a game that passed every question.
 fn loaded(game: Game) -> Loaded
-    requires { (Readable (texts_of (side_of game.side, three_of game.texts))) × (Is-stratified (three_of game.texts).site.rules) }
+    requires { (Readable (texts_of (side_of game.side, three_of game.texts))) × (IsStratified (three_of game.texts).site.rules) }
     ensures { texts_from result ≡ texts_of (side_of game.entry.side, three_of game.entry.texts) }
 {
     let side = game.side;

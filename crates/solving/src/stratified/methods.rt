@@ -1,6 +1,6 @@
 // How a stratified program is made, and how the site is judged by it.
 ghost use Rattle.std.specs.Prelude.{◌≡◌, MatchResult};
-ghost use Rattle.game.specs.Strata.{FirstBreak, Stratified as Is-stratified};
+ghost use Rattle.game.specs.Strata.{FirstBreak, Stratified as IsStratified};
 ghost use Rattle.programs.specs.Programs.{rules_of};
 
 use super::Stratified;
@@ -12,7 +12,7 @@ use programs::program::Program;
 impl<const N: usize> Stratified<N> {
     // The program with its levels, or the place of the first rule that breaks the strata.
     pub fn new(program: Program<N>) -> Result<Stratified<N>, usize>
-        ensures { MatchResult result (λ s. (rules_of s.program ≡ rules_of program.entry) × Is-stratified (rules_of program.entry)) (FirstBreak (rules_of program.entry)) }
+        ensures { MatchResult result (λ s. (rules_of s.program ≡ rules_of program.entry) × IsStratified (rules_of program.entry)) (FirstBreak (rules_of program.entry)) }
     {
         let none = Row::clear();
         if let Some(i) = first_break(&program, &none) {

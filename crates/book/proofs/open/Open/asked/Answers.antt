@@ -19,7 +19,7 @@ invariant_of-result g c =
     let t = texts_from o.loaded in
     let asked : AsksTo f t (open_book o) (book_from o.loaded o.struck c.first_winning-shown.new.sheet c.first_winning-shown.result) =
     record { asked = subst (λ rs. Asked t (rows rs) (λ m. f.order t.faults m) (f.order t.plans nothing) (pairs (vec_items o.sheet)) (row_shown c.first_winning-shown.result) (pairs (vec_items c.first_winning-shown.new.sheet))) c.as_slice.ensures.value c.first_winning-shown.ensures.0; texts = refl; struck = refl } in
-    (o.struck_room, (omega (arith, o.sheet_room, c.first_winning-shown.ensures.1), (∥∥₁_map o.kept (asked_keeps f t (open_book o) _ refl c.requires asked), tt)))
+    record { struck_room = o.struck_room; sheet_room = omega (arith, o.sheet_room, c.first_winning-shown.ensures.1); kept = ∥∥₁_map o.kept (asked_keeps f t (open_book o) _ refl c.requires asked) }
 
 pub returns : goal.returns
 returns g c =

@@ -20,7 +20,7 @@ invariant_of-result c =
     let x : Side × Three = (side_of c.in_ok-game.game.side, three_of c.in_ok-game.game.texts) in
     let l = c.in_ok-game.ensures.gives in
     let is = opened_book c.loaded.result c.in_ok-struck.struck c.in_ok-sheet.sheet x c.loaded.ensures c.in_ok-struck.ensures.items c.in_ok-sheet.ensures.items in
-    (omega (arith, c.in_ok-struck.ensures.made.1), (omega (arith, c.in_ok-sheet.ensures.made.1), (∣ subst Keeps (sym is) (opened_keeps c.args.side c.args.plan.now c.args.faults.now c.args.site.now x l) ∣₁, tt)))
+    record { struck_room = omega (arith, c.in_ok-struck.ensures.capacity); sheet_room = omega (arith, c.in_ok-sheet.ensures.capacity); kept = ∣ subst Keeps (sym is) (opened_keeps c.args.side c.args.plan.now c.args.faults.now c.args.site.now x l) ∣₁ }
 
 pub returns : goal.returns
 returns c =

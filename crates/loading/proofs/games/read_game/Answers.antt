@@ -6,7 +6,7 @@ use Rattle.loading.specs.Sided.{side_of}
 use Rattle.loading.specs.Read.{three_of}
 use Rattle.loading.proofs.Exactly.{both}
 use Rattle.loading.proofs.Threes.{told}
-use Rattle.loading.proofs.game.read_game.Goals as goal
+use Rattle.loading.proofs.games.read_game.Goals as goal
 
 pub returns-in_err-side : goal.returns-in_err-side
 returns-in_err-side c =
