@@ -18,7 +18,7 @@ returns-in_err-load c =
     record {
       decided =
           subst (λ r. Decided c.args.side c.args.plan.now c.args.faults.now c.args.site.now c.args.buffer.now c.args.buffer.now r) (sym (p.1 ∙ ap Err p.2))
-          (not_taken memory e (book_of c.load.new.self) (subst (λ b. Goes (load memory c.args.side c.args.plan.now c.args.faults.now c.args.site.now) b (refused (not_loaded e)) (book_of c.load.new.self)) c.new_book.ensures.empty goes) refl);
+          (not_taken memory e (book_of c.load.new.self) (subst (λ b. Goes (load memory c.args.side c.args.plan.now c.args.faults.now c.args.site.now) b (refused (not_loaded e)) (book_of c.load.new.self)) c.new-book.ensures.empty goes) refl);
       fits = subst (λ r. Fits c.args.buffer.now r) (sym (p.1 ∙ ap Err p.2)) tt;
     }
 
@@ -39,7 +39,7 @@ returns c =
     record {
       decided =
           reports memory b b' (verdict_model a.verdict) (coherence_model a.coherence) a.pairs a.struck c.ask.new.row.marks c.plan_shown-shown.result c.report.result
-          (subst (λ z. Goes (load memory c.args.side c.args.plan.now c.args.faults.now c.args.site.now) z done b) c.new_book.ensures.empty goes) asked
+          (subst (λ z. Goes (load memory c.args.side c.args.plan.now c.args.faults.now c.args.site.now) z done b) c.new-book.ensures.empty goes) asked
           (shown_is b'.shown (row_shown c.plan_shown-shown.result) (verdict_model a.verdict) c.ask.new.row.marks v-is r-is c.plan_shown-shown.ensures)
           (subst (λ x. Reported c.args.plan.now c.args.faults.now c.args.site.now x c.plan_shown-shown.result c.args.buffer.now c.report.new.buffer c.report.result) c.is_coherent.ensures c.report.ensures);
       fits = reported_fits c.args.plan.now c.args.faults.now c.args.site.now c.is_coherent.result c.plan_shown-shown.result c.args.buffer.now c.report.new.buffer c.report.result c.report.ensures;
