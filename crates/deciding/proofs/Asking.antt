@@ -1,13 +1,13 @@
 -- An ask with the branching finder after a load.
-use Rattle.std.proofs.Common.{◌≡◌, ℕ, ◌<◌, Bool, ◌⊎◌, List, length, Some, None, Ok, Err, Option, Result, sym, refl, ap, ◌∙◌, subst, inl, inr, arith}
+use Rattle.std.proofs.Common.{◌≡◌, ℕ, ◌<◌, Bool, List, Some, None, Ok, Err, Option, Result, sym, refl, ap, ◌∙◌, subst, inl, inr, arith}
 use Rattle.game.specs.Sets.{Row}
 use Rattle.game.specs.Rules.{Rule, is_head}
 use Rattle.game.specs.Game.{Texts}
 use Rattle.game.proofs.Rows.{row, length-row}
 use Rattle.closure.proofs.Marks.{marked_length}
-use Rattle.finders.specs.Meanings.{Meaning, heads_below}
+use Rattle.finders.specs.Meanings.{heads_below}
 use Rattle.finders.specs.Supplied.{branching}
-use Rattle.runs.specs.Book.{Book, Call, Answer, refused, done, told, wrote, Verdict, plan_shown, no_plan, verdict_of, row_of, texts_of, Goes, load, ask, loads, load_refused, load_starved, asks, ask_unloaded, ask_too_many}
+use Rattle.runs.specs.Book.{Book, Answer, refused, done, told, wrote, Verdict, verdict_of, row_of, texts_of, Goes, load, ask, loads, load_refused, load_starved, asks, ask_unloaded, ask_too_many}
 use Rattle.closure.specs.declared.row.Row as code
 use Rattle.refusals.specs.declared.fault.Fault.{Fault}
 use Rattle.report.specs.Reported.{Reported}

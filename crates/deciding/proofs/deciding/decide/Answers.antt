@@ -1,8 +1,7 @@
-use Rattle.std.proofs.Common.{◌≡◌, Bool, Ok, Err, sym, refl, ap, ◌∙◌, subst}
+use Rattle.std.proofs.Common.{Err, sym, refl, ap, ◌∙◌, subst}
 use Rattle.std.proofs.lemmas.Result.{err_from_is_err_and}
-use Rattle.finders.specs.Supplied.{branching}
 use Rattle.report.specs.Reported.{Reported}
-use Rattle.runs.specs.Book.{Book, Goes, load, ask, done, told, refused, not_loaded, new_book}
+use Rattle.runs.specs.Book.{Goes, load, done, told, refused, not_loaded}
 use Rattle.book.specs.Answers.{verdict_model, coherence_model, refusal_model}
 use Rattle.book.specs.Books.{book_of}
 use Rattle.book.specs.Models.{row_shown}

@@ -1,4 +1,4 @@
-use Rattle.std.proofs.Common.{◌≡◌, ℕ, ◌+◌, List, ◌++◌, get_or, drop, vec_items, codes, sym, ap, ◌∙◌, append_assoc, append-nil}
+use Rattle.std.proofs.Common.{ℕ, ◌+◌, List, ◌++◌, drop, vec_items, codes, sym, ap, ◌∙◌, append_assoc, append-nil}
 use Rattle.reading.specs.Tables.{standings}
 use Rattle.listing_text.specs.Lines.{names_from, dotted}
 use Rattle.listing_text.proofs.Naming.{name_here, name_on, names_done}

@@ -1,4 +1,4 @@
-use Rattle.std.proofs.Common.{◌≡◌, [], ◌++◌, vec_items, codes, ap, ◌∙◌, append_assoc}
+use Rattle.std.proofs.Common.{[], ◌++◌, vec_items, codes, ap, ◌∙◌, append_assoc}
 use Rattle.reading.specs.Tables.{standings}
 use Rattle.listing_text.specs.Lines.{names_from, dotted}
 use Rattle.listing_text.proofs.lines.add_set.Goals as goal

@@ -1,7 +1,5 @@
-use Rattle.std.proofs.Common.{◌≡◌, false, cond, Some, None, codes, sym, refl, ap, ◌∙◌}
+use Rattle.std.proofs.Common.{◌≡◌, false, cond, Some, None, codes, sym, ◌∙◌}
 use Rattle.std.specs.Str.{bytes_eq}
-use Rattle.std.proofs.lemmas.Slice.Eq.{bytes_eq-Decides}
-use Rattle.std.proofs.lemmas.Bool.Decides.{same_from_decides}
 use Rattle.listing_text.specs.declared.words.Order.TheVariants.{Counting, Branching}
 use Rattle.listing_text.proofs.words.order_asked.Goals as goal
 
