@@ -1,5 +1,7 @@
 // The judgement of a stratified program: the atoms are settled level by level, and the constraints are tested.
+ghost use Rattle.std.specs.Prelude.{ℕ};
 ghost use Rattle.game.specs.Derives.{Settles, SmallestClosed, derives_at};
+ghost use Rattle.game.specs.Sets.{In};
 ghost use Rattle.programs.specs.Model.{models};
 ghost use Rattle.programs.specs.Programs.{rules_of};
 ghost use Rattle.solving.specs.Judged.{Judged, OneAnswer};
@@ -49,9 +51,10 @@ impl Stratified<96> {
         !violates(self.program.rules(), &self.settle(given))
     }
 
-    // The answer set of the headed rules with these atoms given: the only one, where no given atom is a head.
+    // The answer set of the headed rules with these atoms given: the only one, where no given atom is a head. It holds no given atom.
     pub fn answer(&self, given: &Row<96>) -> Row<96>
-        ensures { OneAnswer (rules_of self.now.program) given.now.marks result.marks }
+        ensures one { OneAnswer (rules_of self.now.program) given.now.marks result.marks }
+        ensures new { (a : ℕ) → In a result.marks → ¬ In a given.now.marks }
     {
         self.settle(given).minus(given)
     }
