@@ -1,6 +1,6 @@
 -- An ask that goes down the plans one after another.
 use Rattle.std.proofs.Common.{◌≡◌, ℕ, ◌<◌, ◌⊎◌, List, [], ◌∷◌, length, Some, None, Option, sym, refl, ap, ◌∙◌, subst, inl, inr, arith}
-use Rattle.std.specs.List.{ContainsAt as Has, AllByRecursion as All}
+use Rattle.std.specs.List.{ContainsAt as Has, AllByRecursion}
 use Rattle.game.specs.Sets.{Row}
 use Rattle.game.specs.Game.{Texts, Beats}
 use Rattle.game.proofs.Listing.{Differ}
@@ -31,7 +31,7 @@ module _ (t : Texts) (struck : List Row) (replies : Row → List Row) (xs : List
       pub notes : (r : Row) → First (Beats t x) (replies x) r → (s'' : List Pair) → s'' ≡ noted s (record { plan = x; reply = r }) → SameAsk t struck replies xs s₀ (past xs x) s''
       notes r first s'' is = record { on = λ o s' a. here.on o s' (newly_beaten r out unbeaten first (subst (λ z. Asked t struck replies (past xs x) z o s') is a)) }
 
-      pub wins : All (λ r. Beats t x r → ⊥) (replies x) → Asked t struck replies xs s₀ (Some x) s
+      pub wins : AllByRecursion (λ r. Beats t x r → ⊥) (replies x) → Asked t struck replies xs s₀ (Some x) s
       wins none = here.on (Some x) s (shows out unbeaten none)
 
     pub fewer : length (past xs x) < length (rest_of xs at)

@@ -1,6 +1,6 @@
 -- The first of a list with a property, looked for one entry after another.
 use Rattle.std.proofs.Common.{◌≡◌, ℕ, ◌<◌, List, [], ◌∷◌, length, sym, refl, ap, ◌∙◌, subst, inl, inr, arith}
-use Rattle.std.specs.List.{ContainsAt as Has, AllByRecursion as All}
+use Rattle.std.specs.List.{ContainsAt as Has, AllByRecursion}
 use Rattle.game.specs.Sets.{Row}
 use Rattle.game.proofs.Listing.{Differ}
 use Rattle.finders.specs.Meanings.{From, start, after, Rest}
@@ -10,7 +10,7 @@ use Rattle.runs.specs.Book.{First}
 -- what is first on the rest is first on the whole, and where the rest has none, the whole has none
 pub record SameFrom (P : Row → Type 0) (xs rest : List Row) : Type 0 where
   pub first : (x : Row) → First P rest x → First P xs x
-  pub none : All (λ x. P x → ⊥) rest → All (λ x. P x → ⊥) xs
+  pub none : AllByRecursion (λ x. P x → ⊥) rest → AllByRecursion (λ x. P x → ⊥) xs
 
 pub same_whole : (P : Row → Type 0) (xs : List Row) → SameFrom P xs xs
 same_whole P xs = record { first = λ x f. f; none = λ a. a }
@@ -28,5 +28,5 @@ module _ (P : Row → Type 0) (xs : List Row) (differ : Differ xs) (at : From) (
   pub fewer_left : length (past xs x) < length (rest_of xs at)
   fewer_left = let e = ap length (entry_first xs differ at x ys rest) in omega arith
 
-pub none_left : (P : Row → Type 0) (xs : List Row) (differ : Differ xs) (at : From) → Rest xs at [] → SameFrom P xs (rest_of xs at) → All (λ x. P x → ⊥) xs
-none_left P xs differ at rest same = same.none (subst (All (λ x. P x → ⊥)) (sym (rest_is xs at [] differ rest)) tt)
+pub none_left : (P : Row → Type 0) (xs : List Row) (differ : Differ xs) (at : From) → Rest xs at [] → SameFrom P xs (rest_of xs at) → AllByRecursion (λ x. P x → ⊥) xs
+none_left P xs differ at rest same = same.none (subst (AllByRecursion (λ x. P x → ⊥)) (sym (rest_is xs at [] differ rest)) tt)

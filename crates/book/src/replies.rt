@@ -1,6 +1,6 @@
 // The first reply that beats a plan.
 ghost use Rattle.std.specs.Option.{MatchOption};
-ghost use Rattle.std.specs.List.{AllByRecursion as All};
+ghost use Rattle.std.specs.List.{AllByRecursion};
 ghost use Rattle.finders.specs.Meanings.{Taken};
 ghost use Rattle.game.specs.Game.{Beats};
 ghost use Rattle.programs.specs.Programs.{rules_of};
@@ -16,7 +16,7 @@ impl Loaded {
     // The first reply to the plan, in the finder's order, that beats it.
     pub(crate) fn first_beating<F: Finder<96>>(&self, finder: &F, plan: &Row<96>) -> Option<Row<96>>
         requires { Taken 96 (F.meaning finder.now).most (rules_of self.now.faults) plan.now.marks }
-        ensures { MatchOption result (All (λ x. Beats (texts_from self.now) plan.now.marks x → ⊥) ((F.meaning finder.now).order (rules_of self.now.faults) plan.now.marks)) (λ x. First (Beats (texts_from self.now) plan.now.marks) ((F.meaning finder.now).order (rules_of self.now.faults) plan.now.marks) x.marks) }
+        ensures { MatchOption result (AllByRecursion (λ x. Beats (texts_from self.now) plan.now.marks x → ⊥) ((F.meaning finder.now).order (rules_of self.now.faults) plan.now.marks)) (λ x. First (Beats (texts_from self.now) plan.now.marks) ((F.meaning finder.now).order (rules_of self.now.faults) plan.now.marks) x.marks) }
     {
         let mut earlier = None;
         while let Some(reply) = following(finder, &self.faults, plan, earlier) {

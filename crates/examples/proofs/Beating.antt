@@ -3,7 +3,7 @@ use Rattle.std.proofs.Common.{◌≡◌, Bool, true, false, not, ◌&&◌, ◌||
 use mathlib.Core.Logic.{∥∥₁_elim}
 use mathlib.Core.HLevel.{⊥_prop}
 use lib.ListN.{length-replicate}
-use Rattle.std.specs.List.{ContainsAt as Has, AllByRecursion as All}
+use Rattle.std.specs.List.{ContainsAt as Has, AllByRecursion}
 use Rattle.std.proofs.ByRecursion.{all-has}
 use Rattle.std.proofs.lemmas.Bool.{false≢true, and_parts, and_from}
 use Rattle.std.proofs.lemmas.Bool.Decides.{Decides-like, Decides-or, Decides-not}
@@ -40,7 +40,7 @@ on_decides (y ∷ ys) x = Decides-like _ (λ h. ⊎_elim (λ e. subst (Has (y �
 
 -- the first of a list with P, or that none has it
 abbrev pub FirstTold : {X : Type 0} → (X → Type 0) → List X → Type 0
-FirstTold {X} P xs = ((x : X) × First P xs x) ⊎ All (λ x. P x → ⊥) xs
+FirstTold {X} P xs = ((x : X) × First P xs x) ⊎ AllByRecursion (λ x. P x → ⊥) xs
 
 abbrev first_on : {X : Type 0} (P : X → Type 0) (x : X) (xs : List X) → Dec (P x) → FirstTold P xs → FirstTold P (x ∷ xs)
 first_on P x xs (yes p) rest = inl (x, inl (refl, p))

@@ -1,6 +1,6 @@
 -- A test of examples that computes: what passes it holds.
 use Rattle.std.proofs.Common.{◌≡◌, ℕ, Bool, true, false, ◌&&◌, eqb, List, [], ◌∷◌, map, Some, None, Ok, Err, filter, Option, Result, refl, subst, ap₂}
-use Rattle.std.specs.List.{AllByRecursion as All}
+use Rattle.std.specs.List.{AllByRecursion}
 use Rattle.std.proofs.lemmas.Bool.{false≢true, and_parts, eqb-true}
 use Rattle.game.specs.Sets.{Row}
 use Rattle.game.specs.Rules.{Rule}
@@ -108,6 +108,6 @@ pub checked_hold : (es : List Example) → all_checked es ≡ true → Hold es
 unfolding all_checked
 checked_hold es e = record { each = go es e }
   where
-    go : (es : List Example) → all_checked es ≡ true → All Holds es
+    go : (es : List Example) → all_checked es ≡ true → AllByRecursion Holds es
     go [] e = tt
     go (x ∷ xs) e = let (first, rest) = and_parts (checked x) (all_checked xs) e in (checked_holds x first, go xs rest)

@@ -1,6 +1,6 @@
 -- Moves put to a loaded book, computed: what passes is a run.
 use Rattle.std.proofs.Common.{◌≡◌, ℕ, ◌<◌, ◌≤◌, Bool, true, false, ◌&&◌, eqb, ltb, leb, List, [], ◌∷◌, ◌++◌, map, length, Some, None, Option, sym, refl, ◌∙◌, subst, ap₂, inl, inr, arith}
-use Rattle.std.specs.List.{ContainsAt as Has, AllByRecursion as All}
+use Rattle.std.specs.List.{ContainsAt as Has, AllByRecursion}
 use Rattle.std.proofs.lemmas.Bool.{false≢true, and_parts, eqb-true, leb-true, ltb-true}
 use Rattle.game.specs.Sets.{Row}
 use Rattle.game.specs.Game.{Texts, Beats, nothing}
@@ -69,7 +69,7 @@ module _ (t : Texts) (fit : Fit t) where
     past m ms s rs e later (yes h) d k = let (o, s', a) = later s in (o, s', over_struck h a)
     past m ms s rs e later (no n) (yes b) k = let (o, s', a) = later s in (o, s', over_beaten n b a)
     past m ms s rs e later (no n) (no u) (inl (r, first)) = let (o, s', a) = later (noted s (record { plan = m; reply = r })) in (o, s', newly_beaten r n u (subst (λ xs. First (Beats t m) xs r) e first) a)
-    past m ms s rs e later (no n) (no u) (inr none) = (Some m, s, book.shows n u (subst (All (λ r. Beats t m r → ⊥)) e none))
+    past m ms s rs e later (no n) (no u) (inr none) = (Some m, s, book.shows n u (subst (AllByRecursion (λ r. Beats t m r → ⊥)) e none))
 
     abbrev down : (ms : List Row) → ((m : Row) → Has ms m → Wide m) → (s : List Pair) → Down ms s
     down [] wide s = (None, s, run_out)

@@ -1,6 +1,6 @@
 -- Worked examples, and what each of them says.
 use Rattle.std.specs.Prelude.{◌≡◌, ℕ, true, List, [], ◌∷◌, map, set, Ok, Err, slice_set}
-use Rattle.std.specs.List.{AllByRecursion as All}
+use Rattle.std.specs.List.{AllByRecursion}
 use Rattle.game.specs.Sets.{Row}
 use Rattle.game.specs.Sides.{Side}
 use Rattle.game.specs.AnswerSets.{AnswerSet}
@@ -92,4 +92,4 @@ Holds (game c moves sheet) = (x : Side) × (t : Three) × Loads c.side c.plan c.
 
 -- every example on the list holds
 pub record Hold (es : List Example) : Type 0 where
-  pub each : All Holds es
+  pub each : AllByRecursion Holds es

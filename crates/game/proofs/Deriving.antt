@@ -1,6 +1,6 @@
 -- What the tests of derivation decide, that they grow with the set, and the smallest set that is closed under them.
 use Rattle.std.proofs.Common.{◌≡◌, ℕ, ◌<◌, Bool, true, false, ◌||◌, eqb, List, [], ◌∷◌, length, get_or, Decides, sym, refl, ap, ◌∙◌}
-use Rattle.std.specs.List.{ContainsAt as Has, AllByRecursion as All}
+use Rattle.std.specs.List.{ContainsAt as Has, AllByRecursion}
 use Rattle.std.proofs.ByRecursion.{All-weaker, has_get_or, Decides-by_and}
 use Rattle.std.proofs.lemmas.Bool.Decides.{Decides-like, Decides-and, Decides-not, Decides-eqb, Decides-by_or}
 use Rattle.game.specs.Sets.{Row, In, Within}
@@ -11,10 +11,10 @@ use Rattle.game.proofs.StrataRows.{decides_itself, same_rows}
 
 -- ## What the tests decide
 
-pub all_in_decides : (s : Row) (as' : List ℕ) → Decides (all_in s as') (All (λ a. In a s) as')
+pub all_in_decides : (s : Row) (as' : List ℕ) → Decides (all_in s as') (AllByRecursion (λ a. In a s) as')
 all_in_decides s = Decides-by_and (λ a. get_or s a false) (λ a. In a s) (all_in s) (λ a. decides_itself (get_or s a false)) refl (λ _ _. refl)
 
-pub none_in_decides : (x : Row) (as' : List ℕ) → Decides (none_in x as') (All (λ a. In a x → ⊥) as')
+pub none_in_decides : (x : Row) (as' : List ℕ) → Decides (none_in x as') (AllByRecursion (λ a. In a x → ⊥) as')
 none_in_decides x = Decides-by_and _ (λ a. In a x → ⊥) (none_in x) (λ a. Decides-not (get_or x a false) (decides_itself (get_or x a false))) refl (λ _ _. refl)
 
 pub fires_decides : (x s : Row) (r : Rule) → Decides (fires x s r) (Kept x r × PlainIn s r)

@@ -1,20 +1,20 @@
 -- What holds of each element of a list or each number below another, and tests that some element passes.
 use Rattle.std.proofs.Common.{◌≡◌, ℕ, suc, ◌<◌, Bool, true, false, ◌||◌, ◌↔◌, List, [], ◌∷◌, ◌++◌, sym, subst, inl, inr, arith}
 use mathlib.Core.Bool.{or_assoc}
-use Rattle.std.specs.List.{ContainsAt as Has, AllByRecursion as All}
+use Rattle.std.specs.List.{ContainsAt as Has, AllByRecursion}
 use Rattle.std.proofs.ByRecursion.{All-append, all-has, All-weaker, all_has_itself}
 use Rattle.std.proofs.lemmas.Bool.{cases_order}
 use Rattle.std.proofs.lemmas.Bool.Decides.{Decides-by_or}
 
 module _ {X : Type 0} (P : X → Type 0) where
-  pub all_each : (xs : List X) → All P xs ↔ ((x : X) → Has xs x → P x)
+  pub all_each : (xs : List X) → AllByRecursion P xs ↔ ((x : X) → Has xs x → P x)
   all_each xs = (λ h x k. all-has P xs x h k, λ f. All-weaker (Has xs) P f xs (all_has_itself xs))
 
-  all_apart : (xs ys : List X) → All P (xs ++ ys) → All P xs × All P ys
+  all_apart : (xs ys : List X) → AllByRecursion P (xs ++ ys) → AllByRecursion P xs × AllByRecursion P ys
   all_apart [] ys h = (tt, h)
   all_apart (x ∷ xs) ys h = let rest = all_apart xs ys h.1 in ((h.0, rest.0), rest.1)
 
-  pub all_parts : (xs ys : List X) → All P (xs ++ ys) ↔ All P xs × All P ys
+  pub all_parts : (xs ys : List X) → AllByRecursion P (xs ++ ys) ↔ AllByRecursion P xs × AllByRecursion P ys
   all_parts xs ys = (all_apart xs ys, λ h. All-append P xs ys h.0 h.1)
 
 pub below_suc : (n : ℕ) (P : ℕ → Type 0) → ((a : ℕ) → a < n → P a) × P n ↔ ((a : ℕ) → a < suc n → P a)

@@ -2,7 +2,7 @@
 use Rattle.std.proofs.Common.{◌≡◌, ℕ, zero, suc, Bool, true, false, List, [], ◌∷◌, length, get_or, refl, ap, subst, arith}
 use mathlib.Core.Logic.Dec
 use native.Mathlib.Decide.{map_dec}
-use Rattle.std.specs.List.{ContainsAt as Has, AllByRecursion as All}
+use Rattle.std.specs.List.{ContainsAt as Has, AllByRecursion}
 use Rattle.std.proofs.lemmas.List.{nil_from_length}
 use Rattle.std.proofs.lemmas.Bool.{false≢true}
 use Rattle.game.specs.Sets.{Row, In, Within}
@@ -17,7 +17,7 @@ dec_implies (yes a) (yes b) = yes (λ _. b)
 dec_implies (yes a) (no b) = no (λ f. b (f a))
 dec_implies (no a) d = yes (λ x. absurd (a x))
 
-pub dec_all : {X : Type 0} (P : X → Type 0) → ((x : X) → Dec (P x)) → (xs : List X) → Dec (All P xs)
+pub dec_all : {X : Type 0} (P : X → Type 0) → ((x : X) → Dec (P x)) → (xs : List X) → Dec (AllByRecursion P xs)
 dec_all P each [] = yes tt
 dec_all P each (x ∷ xs) = Dec.and (each x) (dec_all P each xs)
 

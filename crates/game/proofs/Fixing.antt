@@ -2,7 +2,7 @@
 use Rattle.std.proofs.Common.{◌≡◌, ℕ, zero, suc, ◌<◌, Bool, true, false, cond, ◌&&◌, ◌||◌, eqb, ◌↔◌, List, [], ◌∷◌, ◌++◌, length, get_or, sym, refl, inl, inr, arith}
 use mathlib.Core.Bool.{or-false, and-true, and-false}
 use mathlib.Core.Logic.Iff
-use Rattle.std.specs.List.{AllByRecursion as All}
+use Rattle.std.specs.List.{AllByRecursion}
 use Rattle.std.proofs.lemmas.Bool.{false≢true, eqb-true, eq-eqb, and_parts, and_from, or_cases, or_left}
 use Rattle.game.specs.Sets.{Row, In, Within}
 use Rattle.game.specs.Rules.{Rule, none, atom, stands}
@@ -21,20 +21,20 @@ module _ (base : List Rule) (m : Row) where
   abbrev FixedAt : Row → ℕ → Type 0
   FixedAt s a = (In a m → In a s) × (stands a base ≡ true → In a s → In a m)
 
-  met_at : (x s : Row) (a : ℕ) → All (Meets x s) (fixing base m a) ↔ FixedAt s a
+  met_at : (x s : Row) (a : ℕ) → AllByRecursion (Meets x s) (fixing base m a) ↔ FixedAt s a
   met_at x s a = go (get_or m a false) (stands a base)
     where
-      go : (b c : Bool) → (All (Meets x s) (choice a b c) ↔ (b ≡ true → In a s) × (c ≡ true → In a s → b ≡ true))
+      go : (b c : Bool) → (AllByRecursion (Meets x s) (choice a b c) ↔ (b ≡ true → In a s) × (c ≡ true → In a s → b ≡ true))
       go true c = (λ h. (λ _. h.0 tt tt, λ _ _. refl), λ h. (λ _ _. h.0 refl, tt))
       go false true = (λ h. (λ e. absurd (false≢true e), λ _ k. absurd (h.0 tt (k, tt))), λ h. (λ _ k. false≢true (h.1 refl k.0), tt))
       go false false = (λ h. (λ e. absurd (false≢true e), λ e. absurd (false≢true e)), λ h. tt)
 
-  met_below : (n : ℕ) (x s : Row) → All (Meets x s) (fixed n base m) ↔ ((a : ℕ) → a < n → FixedAt s a)
+  met_below : (n : ℕ) (x s : Row) → AllByRecursion (Meets x s) (fixed n base m) ↔ ((a : ℕ) → a < n → FixedAt s a)
   met_below zero x s = (λ h a l. absurd (omega arith), λ h. tt)
   met_below (suc n) x s = Iff.trans (all_parts (Meets x s) (fixed n base m) (fixing base m n)) (Iff.trans (Iff.and (met_below n x s) (met_at x s n)) (below_suc n (FixedAt s)))
 
   -- a model has what is fixed, and no other atom of base
-  pub fixed_met : (n : ℕ) (x s : Row) → length m ≡ n → length s ≡ n → (All (Meets x s) (fixed n base m) ↔ Within m s × ((a : ℕ) → stands a base ≡ true → In a s → In a m))
+  pub fixed_met : (n : ℕ) (x s : Row) → length m ≡ n → length s ≡ n → (AllByRecursion (Meets x s) (fixed n base m) ↔ Within m s × ((a : ℕ) → stands a base ≡ true → In a s → In a m))
   fixed_met n x s wide same = Iff.trans (met_below n x s) (λ h. (λ a k. (h a (in_width m wide a k)).0 k, λ a e k. (h a (in_width s same a k)).1 e k), λ h a _. (h.0 a, h.1 a))
 
   stands_fixing : (a b : ℕ) → stands a (fixing base m b) ≡ (eqb a b && (get_or m b false || stands b base))

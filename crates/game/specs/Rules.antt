@@ -1,6 +1,6 @@
 -- Ground rules over numbered atoms.
 use Rattle.std.specs.Prelude.{◌≡◌, ℕ, Bool, false, ◌||◌, List, [], ◌∷◌, ◌==◌}
-use Rattle.std.specs.List.{ContainsAt as Has, AllByRecursion as All}
+use Rattle.std.specs.List.{ContainsAt as Has, AllByRecursion}
 use Rattle.game.specs.Sets.{Row, In}
 
 -- a rule without a head is a constraint
@@ -45,11 +45,11 @@ headed (r ∷ rs) = elim r.head [ none ↦ headed rs | atom a ↦ r ∷ headed r
 
 -- every plain atom of the rule is in s
 abbrev pub PlainIn : Row → Rule → Type 0
-PlainIn s r = All (λ a. In a s) r.plain
+PlainIn s r = AllByRecursion (λ a. In a s) r.plain
 
 -- no negated atom of the rule is in x: the reduct for x keeps the rule, without its negated atoms
 abbrev pub Kept : Row → Rule → Type 0
-Kept x r = All (λ a. In a x → ⊥) r.negated
+Kept x r = AllByRecursion (λ a. In a x → ⊥) r.negated
 
 -- s obeys every headed rule of the reduct of the rules for x
 abbrev pub Obeys : List Rule → Row → Row → Type 0

@@ -1,6 +1,6 @@
 -- The dependency graph of a program, stratified programs and levels.
 use Rattle.std.specs.Prelude.{◌≡◌, ℕ, ◌<◌, ◌≤◌, true, List, ◌++◌, length, ◌≢◌}
-use Rattle.std.specs.List.{HoldsAt, ContainsAt as Has, AllByRecursion as All}
+use Rattle.std.specs.List.{HoldsAt, ContainsAt as Has, AllByRecursion}
 use Rattle.game.specs.Sets.{Row, In}
 use Rattle.game.specs.Rules.{Rule, atom, is_head, headed}
 use Rattle.game.specs.AnswerSets.{AnswerSet}
@@ -29,8 +29,8 @@ pub record FirstBreak (rules : List Rule) (i : ℕ) : Type 0 where
 
 -- a head stands no lower than the plain atoms of its body, and above the negated ones
 pub record Leveled (rules : List Rule) (level : ℕ → ℕ) : Type 0 where
-  pub plain : (r : Rule) (a : ℕ) → Has rules r → r.head ≡ atom a → All (λ b. level b ≤ level a) r.plain
-  pub negated : (r : Rule) (a : ℕ) → Has rules r → r.head ≡ atom a → All (λ b. level b < level a) r.negated
+  pub plain : (r : Rule) (a : ℕ) → Has rules r → r.head ≡ atom a → AllByRecursion (λ b. level b ≤ level a) r.plain
+  pub negated : (r : Rule) (a : ℕ) → Has rules r → r.head ≡ atom a → AllByRecursion (λ b. level b < level a) r.negated
 
 -- where levels fit, the headed rules have one answer set at most for each given set without their heads
 abbrev pub OneAnswerAtMost : Type 0

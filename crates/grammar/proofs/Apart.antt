@@ -1,7 +1,7 @@
 -- A head stands in an earlier text, by its number, where its name does.
 use Rattle.std.proofs.Common.{◌≡◌, ℕ, Bool, true, false, cond, ◌||◌, eqb, ◌↔◌, List, [], ◌∷◌, ◌++◌, map, length, Some, None, Decides, Option, sym, refl, ap, ◌∙◌, inl, inr, arith}
 use mathlib.Core.Bool.{or_assoc, or_comm}
-use Rattle.std.specs.List.{ContainsAt as Has, AllByRecursion as All}
+use Rattle.std.specs.List.{ContainsAt as Has, AllByRecursion}
 use Rattle.std.specs.Str.{bytes_eq}
 use Rattle.std.proofs.ByRecursion.{all-has, All-weaker, all_has_itself}
 use Rattle.std.proofs.lemmas.Bool.{true≢false, cases_Bool}
@@ -69,7 +69,7 @@ module _ (ms : List Name) where
   abbrev New : Name → Type 0
   New n = known n ms ≡ false
 
-  new_apart : (ns : List Name) → All New ns ↔ Apart ns ms
+  new_apart : (ns : List Name) → AllByRecursion New ns ↔ Apart ns ms
   new_apart ns = (λ new n here there. not_from_Decides (known n ms) (known_has n ms) (all-has New ns n new here) there, λ off. All-weaker (Has ns) New (λ n here. new n (off n here)) ns (all_has_itself ns))
     where
       new : (n : Name) → (Has ms n → ⊥) → New n
@@ -84,7 +84,7 @@ module _ (ms : List Name) where
         go false = (λ e. (refl, rest.0 e), λ h. rest.1 h.1)
 
     -- `taken-head` goes down rules and places together, so there is a place for each rule
-    all_new : (ws : List Written) (places : List ℕ) → length places ≡ length ws → All (Known table) (names ws) → (taken_head (map (numbered table) ws) places earlier ≡ None ↔ All New (heads ws))
+    all_new : (ws : List Written) (places : List ℕ) → length places ≡ length ws → AllByRecursion (Known table) (names ws) → (taken_head (map (numbered table) ws) places earlier ≡ None ↔ AllByRecursion New (heads ws))
     all_new [] places same k = (λ e. tt, λ h. refl)
     all_new (w ∷ ws) [] same k = absurd (omega arith)
     all_new (fact n ∷ ws) (at ∷ places) same k = one_new n at _ _ k.0 (all_new ws places (omega arith) k.1)
@@ -92,5 +92,5 @@ module _ (ms : List Name) where
     all_new (rule (Some n) b ∷ ws) (at ∷ places) same k = one_new n at _ _ k.0 (all_new ws places (omega arith) (all_parts _ (map literal_name b) (names ws) k.1).1)
 
     -- no head is taken exactly when none is on the list
-    pub none_taken : (ws : List Written) (places : List ℕ) → length places ≡ length ws → All (Known table) (names ws) → (taken_head (map (numbered table) ws) places earlier ≡ None ↔ Apart (heads ws) ms)
+    pub none_taken : (ws : List Written) (places : List ℕ) → length places ≡ length ws → AllByRecursion (Known table) (names ws) → (taken_head (map (numbered table) ws) places earlier ≡ None ↔ Apart (heads ws) ms)
     none_taken ws places same k = let new = all_new ws places same k in let apart = new_apart (heads ws) in (λ e. apart.0 (new.0 e), λ h. new.1 (apart.1 h))

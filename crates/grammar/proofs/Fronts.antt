@@ -1,6 +1,6 @@
 -- The token at the front of bytes, where no gap begins.
 use Rattle.std.proofs.Common.{◌≡◌, ℕ, suc, ◌+◌, ◌≤◌, Bool, true, false, cond, eqb, leb, List, [], ◌∷◌, ◌++◌, length, Some, codes, sym, refl, ap, ◌∙◌, subst, arith}
-use Rattle.std.specs.List.{AllByRecursion as All}
+use Rattle.std.specs.List.{AllByRecursion}
 use Rattle.std.specs.Str.{bytes_eq}
 use Rattle.std.proofs.lemmas.List.{take_at}
 use Rattle.std.proofs.lemmas.Bool.{eqb-true, leb-true, le-leb, not-true, cond-true, cond-false}
@@ -16,7 +16,7 @@ use Rattle.grammar.proofs.Gaps.{Clear}
 
 -- letters, digits and underscores
 abbrev Parts : List ℕ → Type 0
-Parts n = All (λ c. name_part c ≡ true) n
+Parts n = AllByRecursion (λ c. name_part c ≡ true) n
 
 run_over : (n rest : List ℕ) → Parts n → Stops rest → run (n ++ rest) ≡ length n
 run_over [] [] a s = refl

@@ -1,6 +1,6 @@
 -- Blanks and comments: how far they go, and that every list of bytes begins with as many as it can.
 use Rattle.std.proofs.Common.{◌≡◌, ℕ, ◌+◌, Bool, true, false, eqb, List, [], ◌∷◌, ◌++◌, length, sym, refl, ap, ◌∙◌, subst, append_assoc, append-nil, add-zero, zero-add, arith, length-append}
-use Rattle.std.specs.List.{AllByRecursion as All}
+use Rattle.std.specs.List.{AllByRecursion}
 use Rattle.std.proofs.lemmas.Bool.{eqb-true, eqb-false, ne_eqb, cond-true, cond-false}
 use Rattle.reading.specs.Classes.{blank}
 use Rattle.reading.specs.Lexical.{gap}
@@ -8,7 +8,7 @@ use Rattle.grammar.specs.Spelling.{Gap, none, blanks, comment, LastGap, plainly,
 
 -- the inside of a comment
 abbrev pub NoFeed : List ℕ → Type 0
-NoFeed cs = All (λ c. c ≡ 10 → ⊥) cs
+NoFeed cs = AllByRecursion (λ c. c ≡ 10 → ⊥) cs
 
 gap_comment : (cs rest : List ℕ) → NoFeed cs → gap true (cs ++ rest) ≡ length cs + gap true rest
 gap_comment [] rest n = sym (zero-add (gap true rest))

@@ -1,6 +1,6 @@
 -- The limits on one text: what is read keeps them, and what keeps them is read.
 use Rattle.std.proofs.Common.{◌≡◌, ℕ, ◌+◌, ◌≤◌, false, leb, List, [], ◌∷◌, ◌++◌, map, length, refl, arith, length-append}
-use Rattle.std.specs.List.{AllByRecursion as All}
+use Rattle.std.specs.List.{AllByRecursion}
 use Rattle.std.proofs.lemmas.List.{length_push, length-map}
 use Rattle.std.proofs.ByRecursion.{All-push}
 use Rattle.std.proofs.lemmas.Bool.{leb-false, lt-leb}
@@ -18,13 +18,13 @@ Short r = literals r ≤ 16
 -- rules within the limits on one text
 pub record Fine (rs : List Rule) : Type 0 where
   pub few : length rs ≤ 256
-  pub short : All Short rs
+  pub short : AllByRecursion Short rs
 
 -- the rules that ended, with how many more have begun, and how many literals have begun in the rule that goes on
 pub record Kept (rules body : ℕ) (rs : List Rule) : Type 0 where
   pub few : length rs + rules ≤ 256
   pub short : body ≤ 16
-  pub all : All Short rs
+  pub all : AllByRecursion Short rs
 
 abbrev pub rules_begun : Place → ℕ
 rules_begun Start = 0
@@ -90,7 +90,7 @@ module _ (table : List Name) where
   literals_with_body : (r : Rule) (ls : List Literal) → literals (with_body table r ls) ≡ literals r + length ls
   literals_with_body r ls = let long = body_length ls in simp length-append (omega arith)
 
-all_at : {X : Type 0} (P : X → Type 0) (xs : List X) (y : X) (ys : List X) → All P (xs ++ y ∷ ys) → P y
+all_at : {X : Type 0} (P : X → Type 0) (xs : List X) (y : X) (ys : List X) → AllByRecursion P (xs ++ y ∷ ys) → P y
 all_at P [] y ys h = h.0
 all_at P (x ∷ xs) y ys h = all_at P xs y ys h.1
 
@@ -126,16 +126,16 @@ module _ (table : List Name) where
   abbrev ShortBody : Written → Type 0
   ShortBody w = length (body_of w) ≤ 16
 
-  short_numbered : (ws : List Written) → All ShortBody ws → All Short (map (numbered table) ws)
+  short_numbered : (ws : List Written) → AllByRecursion ShortBody ws → AllByRecursion Short (map (numbered table) ws)
   short_numbered [] h = tt
   short_numbered (w ∷ ws) h = (rw literals_numbered h.0, short_numbered ws h.1)
 
-  numbered_short : (ws : List Written) → All Short (map (numbered table) ws) → All ShortBody ws
+  numbered_short : (ws : List Written) → AllByRecursion Short (map (numbered table) ws) → AllByRecursion ShortBody ws
   numbered_short [] h = tt
   numbered_short (w ∷ ws) h = (rw literals_numbered at h.0, numbered_short ws h.1)
 
-  pub fine_numbered : (ws : List Written) → length ws ≤ 256 → All ShortBody ws → Fine (map (numbered table) ws)
+  pub fine_numbered : (ws : List Written) → length ws ≤ 256 → AllByRecursion ShortBody ws → Fine (map (numbered table) ws)
   fine_numbered ws few short = record { few = simp length-map few; short = short_numbered ws short }
 
-  pub numbered_fine : (ws : List Written) → Fine (map (numbered table) ws) → (length ws ≤ 256) × All ShortBody ws
+  pub numbered_fine : (ws : List Written) → Fine (map (numbered table) ws) → (length ws ≤ 256) × AllByRecursion ShortBody ws
   numbered_fine ws h = (simp length-map at h.few, numbered_short ws h.short)

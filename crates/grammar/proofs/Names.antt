@@ -1,6 +1,6 @@
 -- The table of names: a name's number stays when the table grows, and how a name joins it.
 use Rattle.std.proofs.Common.{◌≡◌, ℕ, suc, ◌<◌, ◌≤◌, Bool, true, false, cond, ◌||◌, ltb, List, [], ◌∷◌, ◌++◌, length, Ok, Err, Result, sym, refl, ap, ◌∙◌, subst, arith}
-use Rattle.std.specs.List.{AllByRecursion as All}
+use Rattle.std.specs.List.{AllByRecursion}
 use Rattle.std.specs.Str.{bytes_eq}
 use Rattle.std.proofs.lemmas.List.{map_push, length_push, length-map}
 use Rattle.std.proofs.lemmas.Bool.{ltb-true, ltb-false, lt-ltb, or_right, false≢true, cond-true, cond-false, cond_both}
@@ -79,7 +79,7 @@ number_final n ns t = (stays n ns (join n t) (known_join n t)).1 ∙ number_join
 abbrev pub Known : List Name → Name → Type 0
 Known t n = known n t ≡ true
 
-pub all_known : (ns t : List Name) → All (Known (with_names t ns)) ns
+pub all_known : (ns t : List Name) → AllByRecursion (Known (with_names t ns)) ns
 all_known [] t = tt
 all_known (n ∷ ns) t = ((stays n ns (join n t) (known_join n t)).0, all_known ns (join n t))
 

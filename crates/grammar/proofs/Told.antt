@@ -1,6 +1,6 @@
 -- One text among others: its rules over the table of all their names, and which of its heads stand in earlier texts.
 use Rattle.std.proofs.Common.{◌≡◌, ℕ, ◌≤◌, ◌↔◌, List, ◌++◌, map, length, None, Ok, sym, ap, ◌∙◌, arith}
-use Rattle.std.specs.List.{AllByRecursion as All}
+use Rattle.std.specs.List.{AllByRecursion}
 use Rattle.std.proofs.lemmas.List.{length-map}
 use Rattle.std.proofs.ByRecursion.{All-weaker}
 use Rattle.game.specs.Rules.{Rule}
@@ -38,7 +38,7 @@ one_spelled t text before ws more spelled few =
 -- the rules of a text over a table in which its names are, with a place for each rule
 pub record Told (all : List Name) (ws : List Written) (d : State) : Type 0 where
   pub rules : d.rules ≡ map (numbered all) ws
-  pub known : All (Known all) (names ws)
+  pub known : AllByRecursion (Known all) (names ws)
   pub placed : length d.places ≡ length ws
 
 module _ {t : Text} {text : List ℕ} {before : List Standing} {ws : List Written} {d : State} (o : One t text before ws d) where
@@ -53,7 +53,7 @@ module _ {t : Text} {text : List ℕ} {before : List Standing} {ws : List Writte
   pub told : (more : List Name) → Told (with_names (table d.atoms) more) ws d
   told more =
       let now : List Name = table d.atoms in
-      let known_now : All (Known now) (names ws) = rw o.says.atoms (all_known (names ws) (table before)) in
+      let known_now : AllByRecursion (Known now) (names ws) = rw o.says.atoms (all_known (names ws) (table before)) in
       record {
         rules = o.says.rules ∙ same_rules now (with_names now more) ws (All-weaker _ _ (λ n k. sym (stays n more now k).1) (names ws) known_now);
         known = All-weaker _ _ (λ n k. (stays n more now k).0) (names ws) known_now;

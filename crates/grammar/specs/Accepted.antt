@@ -1,6 +1,6 @@
 -- A text is read without refusal exactly when its bytes spell a list of rules within the limits.
 use Rattle.std.specs.Prelude.{◌≡◌, ℕ, ◌≤◌, List, map, length, Ok, Result}
-use Rattle.std.specs.List.{AllByRecursion as All}
+use Rattle.std.specs.List.{AllByRecursion}
 use Rattle.refusals.specs.declared.fault.Text.{Text}
 use Rattle.refusals.specs.declared.fault.Fault.{Fault}
 use Rattle.reading.specs.Steps.{State, Standing, TextRead}
@@ -12,7 +12,7 @@ pub record Spelled (text : List ℕ) (ws : List Written) : Type 0 where
   pub short : length text ≤ 16384
   pub spells : Spells text (text_words ws)
   pub few : length ws ≤ 256
-  pub bodies : All (λ w. length (body_of w) ≤ 16) ws
+  pub bodies : AllByRecursion (λ w. length (body_of w) ≤ 16) ws
 
 abbrev pub name_of : Standing → Name
 name_of s = s.name

@@ -1,6 +1,6 @@
 -- How bytes spell tokens: blanks and comments may stand between them, and a name goes as far as it can.
 use Rattle.std.specs.Prelude.{◌≡◌, ℕ, ◌≤◌, true, false, List, [], ◌∷◌, ◌++◌, length, codes, ◌≢◌}
-use Rattle.std.specs.List.{AllByRecursion as All}
+use Rattle.std.specs.List.{AllByRecursion}
 use Rattle.reading.specs.Classes.{blank, small, name_part}
 use Rattle.reading.specs.Lexical.{Word, name, negation, arrow, comma, dot}
 
@@ -8,12 +8,12 @@ use Rattle.reading.specs.Lexical.{Word, name, negation, arrow, comma, dot}
 pub data Gap : List ℕ → Type 0 where
   none : Gap []
   blanks : {b : ℕ} {bs : List ℕ} → blank b ≡ true → Gap bs → Gap (b ∷ bs)
-  comment : {bs : List ℕ} (cs : List ℕ) → All (λ c. c ≢ 10) cs → Gap bs → Gap (37 ∷ (cs ++ 10 ∷ bs))
+  comment : {bs : List ℕ} (cs : List ℕ) → AllByRecursion (λ c. c ≢ 10) cs → Gap bs → Gap (37 ∷ (cs ++ 10 ∷ bs))
 
 -- at the end of the text, where a comment may run to the end
 pub data LastGap : List ℕ → Type 0 where
   plainly : {bs : List ℕ} → Gap bs → LastGap bs
-  in_comment : {bs : List ℕ} (cs : List ℕ) → Gap bs → All (λ c. c ≢ 10) cs → LastGap (bs ++ 37 ∷ cs)
+  in_comment : {bs : List ℕ} (cs : List ℕ) → Gap bs → AllByRecursion (λ c. c ≢ 10) cs → LastGap (bs ++ 37 ∷ cs)
 
 abbrev pub spelling : Word → List ℕ
 spelling (name n) = n
@@ -24,7 +24,7 @@ spelling dot = codes "."
 
 abbrev pub NameBytes : List ℕ → Type 0
 NameBytes [] = ⊥
-NameBytes (b ∷ bs) = (small b ≡ true) × All (λ c. name_part c ≡ true) bs
+NameBytes (b ∷ bs) = (small b ≡ true) × AllByRecursion (λ c. name_part c ≡ true) bs
 
 -- a name starts with a small letter, goes on with letters, digits and underscores, is not `not`, and has at most 32 bytes
 abbrev pub Proper : Word → Type 0

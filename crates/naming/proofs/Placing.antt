@@ -1,6 +1,6 @@
 -- Every entry of the table of atoms stands where it says.
 use Rattle.std.proofs.Common.{◌≡◌, ℕ, ◌+◌, ◌≤◌, List, [], ◌++◌, length, take, drop, Ok, Result, sym, refl, ap, ◌∙◌, subst, arith}
-use Rattle.std.specs.List.{AllByRecursion as All}
+use Rattle.std.specs.List.{AllByRecursion}
 use Rattle.std.proofs.lemmas.List.{drop-drop, drop_at, take_at}
 use Rattle.refusals.specs.declared.fault.Text.{Text}
 use Rattle.refusals.specs.declared.fault.Text.TheVariants.{Plan, Faults, Site}
@@ -27,7 +27,7 @@ module _ (p f s : List ℕ) where
   stands : (t : Text) (from at after : ℕ) (n : List ℕ) → lexed (bytes_of t p f s) from ≡ token at after (name n) → Placed p f s (record { text = t; at = at; name = n })
   stands t from at after n e = record { within = part_within t (bytes_of t p f s) from at after n e; part = part_at t (bytes_of t p f s) from at after n e }
 
-  all_placed : {r : Result Three Fault} (t : Three) → ThreeRead p f s r → r ≡ Ok t → All (Placed p f s) t.atoms
+  all_placed : {r : Result Three Fault} (t : Three) → ThreeRead p f s r → r ≡ Ok t → AllByRecursion (Placed p f s) t.atoms
   all_placed t (plan_refused h) is = absurd (err_ok is)
   all_placed t (faults_refused d g h) is = absurd (err_ok is)
   all_placed t (site_refused d d' g h k) is = absurd (err_ok is)
@@ -35,8 +35,8 @@ module _ (p f s : List ℕ) where
       let plan = text_all (Placed p f s) Plan p (stands Plan) [] d g tt in
       let faults = text_all (Placed p f s) Faults f (stands Faults) d.atoms d' h plan in
       let site = text_all (Placed p f s) Site s (stands Site) d'.atoms d'' k faults in
-      subst (λ (x : Three). All (Placed p f s) x.atoms) (ok_same is) site
+      subst (λ (x : Three). AllByRecursion (Placed p f s) x.atoms) (ok_same is) site
 
   -- the table of texts that are read
-  pub placed : (t : Three) → ThreeRead p f s (Ok t) → All (Placed p f s) t.atoms
+  pub placed : (t : Three) → ThreeRead p f s (Ok t) → AllByRecursion (Placed p f s) t.atoms
   placed t h = all_placed t h refl

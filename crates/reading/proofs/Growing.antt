@@ -1,7 +1,7 @@
 -- What entering a name keeps of the table of atoms, reading a text keeps. So the table never gets shorter, and what holds of
 -- each name where it stands holds of each entry.
 use Rattle.std.proofs.Common.{◌≡◌, ℕ, ◌≤◌, Bool, true, false, cond, ltb, leb, List, [], ◌∷◌, ◌++◌, length, Some, None, Ok, Err, Option, Result, sym, refl, subst, arith}
-use Rattle.std.specs.List.{AllByRecursion as All}
+use Rattle.std.specs.List.{AllByRecursion}
 use Rattle.std.proofs.ByRecursion.{All-push}
 use Rattle.refusals.specs.declared.fault.Text.{Text}
 use Rattle.refusals.specs.declared.fault.Fault.{Fault}
@@ -68,17 +68,17 @@ text_longer t text before d h =
     text_keeps (λ ss. length before ≤ length ss) t text (λ from at after n ss ss' _ took held. let more = (grown t at n ss ss' took).longer in omega arith) before d h (omega arith)
 
 module _ (P : Standing → Type 0) (t : Text) (at : ℕ) (n : List ℕ) (ss ss' : List Standing) where
-  entered_all : P (record { text = t; at = at; name = n }) → entered t at n ss ≡ Ok ss' → All P ss → All P ss'
+  entered_all : P (record { text = t; at = at; name = n }) → entered t at n ss ≡ Ok ss' → AllByRecursion P ss → AllByRecursion P ss'
   entered_all here e all = known (ltb (index n ss) (length ss)) e
     where
-      room : (b : Bool) → cond b (Ok (ss ++ record { text = t; at = at; name = n } ∷ [])) (Err (ManyAtoms t at)) ≡ Ok ss' → All P ss'
-      room true e = subst (All P) (ok_same e) (All-push P ss _ all here)
+      room : (b : Bool) → cond b (Ok (ss ++ record { text = t; at = at; name = n } ∷ [])) (Err (ManyAtoms t at)) ≡ Ok ss' → AllByRecursion P ss'
+      room true e = subst (AllByRecursion P) (ok_same e) (All-push P ss _ all here)
       room false e = absurd (err_ok e)
 
-      known : (b : Bool) → cond b (Ok ss) (cond (ltb (length ss) 96) (Ok (ss ++ record { text = t; at = at; name = n } ∷ [])) (Err (ManyAtoms t at))) ≡ Ok ss' → All P ss'
-      known true e = subst (All P) (ok_same e) all
+      known : (b : Bool) → cond b (Ok ss) (cond (ltb (length ss) 96) (Ok (ss ++ record { text = t; at = at; name = n } ∷ [])) (Err (ManyAtoms t at))) ≡ Ok ss' → AllByRecursion P ss'
+      known true e = subst (AllByRecursion P) (ok_same e) all
       known false e = room (ltb (length ss) 96) e
 
 -- what holds of each name where it stands in the text holds of each entry
-pub text_all : (P : Standing → Type 0) (t : Text) (text : List ℕ) → ((from at after : ℕ) (n : List ℕ) → lexed text from ≡ token at after (name n) → P (record { text = t; at = at; name = n })) → (before : List Standing) (d : State) → TextRead t text before (Ok d) → All P before → All P d.atoms
-text_all P t text stands before d h all = text_keeps (All P) t text (λ from at after n ss ss' e took held. entered_all P t at n ss ss' (stands from at after n e) took held) before d h all
+pub text_all : (P : Standing → Type 0) (t : Text) (text : List ℕ) → ((from at after : ℕ) (n : List ℕ) → lexed text from ≡ token at after (name n) → P (record { text = t; at = at; name = n })) → (before : List Standing) (d : State) → TextRead t text before (Ok d) → AllByRecursion P before → AllByRecursion P d.atoms
+text_all P t text stands before d h all = text_keeps (AllByRecursion P) t text (λ from at after n ss ss' e took held. entered_all P t at n ss ss' (stands from at after n e) took held) before d h all

@@ -1,6 +1,6 @@
 -- The first element of a list with a property: there is one or none has it, and there is no second one.
 use Rattle.std.proofs.Common.{◌≡◌, ◌⊎◌, List, [], ◌∷◌, sym, refl, ◌∙◌, subst, inl, inr}
-use Rattle.std.specs.List.{ContainsAt as Has, AllByRecursion as All}
+use Rattle.std.specs.List.{ContainsAt as Has, AllByRecursion}
 use Rattle.game.proofs.StrataLists.{has_first, has_later}
 use Rattle.runs.specs.Book.{First}
 
@@ -22,11 +22,11 @@ module _ {X : Type 0} (P : X → Type 0) where
   one_first (z ∷ xs) x y (inr h) (inl k) = absurd (h.0 (subst P (sym k.0) k.1))
   one_first (z ∷ xs) x y (inr h) (inr k) = one_first xs x y h.1 k.1
 
-  pub first_or_none : ((x : X) → Dec (P x)) → (xs : List X) → ((x : X) × First P xs x) ⊎ All (λ x. P x → ⊥) xs
+  pub first_or_none : ((x : X) → Dec (P x)) → (xs : List X) → ((x : X) × First P xs x) ⊎ AllByRecursion (λ x. P x → ⊥) xs
   first_or_none dec [] = inr tt
   first_or_none dec (x ∷ xs) = go (dec x) (first_or_none dec xs)
     where
-      go : Dec (P x) → (((y : X) × First P xs y) ⊎ All (λ y. P y → ⊥) xs) → ((y : X) × First P (x ∷ xs) y) ⊎ All (λ y. P y → ⊥) (x ∷ xs)
+      go : Dec (P x) → (((y : X) × First P xs y) ⊎ AllByRecursion (λ y. P y → ⊥) xs) → ((y : X) × First P (x ∷ xs) y) ⊎ AllByRecursion (λ y. P y → ⊥) (x ∷ xs)
       go (yes p) rest = inl (x, inl (refl, p))
       go (no n) (inl (y, f)) = inl (y, inr (n, f))
       go (no n) (inr none) = inr (n, none)

@@ -1,7 +1,7 @@
 -- Whatever the book, a call has one outcome and no second one.
 use Rattle.std.proofs.Common.{◌≡◌, ℕ, ◌<◌, Bool, true, false, ◌⊎◌, List, [], ◌∷◌, ◌++◌, length, get_or, Some, None, Ok, Err, Option, Result, sym, refl, ap, ◌∙◌, subst, inl, inr, arith}
 use native.Mathlib.Decide.{dec_lt, ℕ_discrete}
-use Rattle.std.specs.List.{ContainsAt as Has, AllByRecursion as All}
+use Rattle.std.specs.List.{ContainsAt as Has, AllByRecursion}
 use Rattle.std.proofs.lemmas.List.{get_or_default}
 use Rattle.std.proofs.ByRecursion.{all-has}
 use Rattle.game.specs.Sets.{Row}
@@ -31,13 +31,13 @@ module _ (t : Texts) (struck : List Row) (replies : Row → List Row) where
   some_asked [] s = (None, s, run_out)
   some_asked (m ∷ ms) s = go (λ s'. some_asked ms s') (dec_has struck m) (dec_sheet_beats t s m) (first_or_none (Beats t m) (dec_beats t m) (replies m))
     where
-      go : ((s' : List Pair) → SomeDown ms s') → Dec (Has struck m) → Dec (SheetBeats t s m) → (((r : Row) × First (Beats t m) (replies m) r) ⊎ All (λ r. Beats t m r → ⊥) (replies m)) → SomeDown (m ∷ ms) s
+      go : ((s' : List Pair) → SomeDown ms s') → Dec (Has struck m) → Dec (SheetBeats t s m) → (((r : Row) × First (Beats t m) (replies m) r) ⊎ AllByRecursion (λ r. Beats t m r → ⊥) (replies m)) → SomeDown (m ∷ ms) s
       go later (yes h) d e = let (o, s', a) = later s in (o, s', over_struck h a)
       go later (no n) (yes b) e = let (o, s', a) = later s in (o, s', over_beaten n b a)
       go later (no n) (no u) (inl (r, f)) = let (o, s', a) = later (noted s (record { plan = m; reply = r })) in (o, s', newly_beaten r n u f a)
       go later (no n) (no u) (inr none) = (Some m, s, shows n u none)
 
-  unbeaten : (m r : Row) → First (Beats t m) (replies m) r → All (λ q. Beats t m q → ⊥) (replies m) → ⊥
+  unbeaten : (m r : Row) → First (Beats t m) (replies m) r → AllByRecursion (λ q. Beats t m q → ⊥) (replies m) → ⊥
   unbeaten m r f none = all-has (λ q. Beats t m q → ⊥) (replies m) r none (first_has (Beats t m) (replies m) r f) (first_holds (Beats t m) (replies m) r f)
 
   one_asked : (ms : List Row) (s : List Pair) (o p : Option Row) (s' s'' : List Pair) → Down ms s o s' → Down ms s p s'' → (o ≡ p) × (s' ≡ s'')

@@ -1,6 +1,6 @@
 -- The book that is kept on a game, the calls that it takes, and what each call answers and leaves.
 use Rattle.std.specs.Prelude.{◌≡◌, ℕ, ◌<◌, ◌≤◌, Bool, true, false, cond, ◌⊎◌, List, [], ◌∷◌, ◌++◌, length, Some, None, Ok, Err, Option, nat_lt}
-use Rattle.std.specs.List.{HoldsAt, ContainsAt as Has, AllByRecursion as All}
+use Rattle.std.specs.List.{HoldsAt, ContainsAt as Has, AllByRecursion}
 use Rattle.game.specs.Sets.{Row}
 use Rattle.game.specs.Sides.{Side, side_number}
 use Rattle.game.specs.Game.{Texts, Beats, Coherent, nothing}
@@ -52,7 +52,7 @@ pub data Asked (t : Texts) (struck : List Row) (replies : Row → List Row) : Li
   over_struck : {m : Row} {ms : List Row} {s s' : List Pair} {o : Option Row} → Has struck m → Asked t struck replies ms s o s' → Asked t struck replies (m ∷ ms) s o s'
   over_beaten : {m : Row} {ms : List Row} {s s' : List Pair} {o : Option Row} → (Has struck m → ⊥) → SheetBeats t s m → Asked t struck replies ms s o s' → Asked t struck replies (m ∷ ms) s o s'
   newly_beaten : {m : Row} {ms : List Row} {s s' : List Pair} {o : Option Row} (r : Row) → (Has struck m → ⊥) → (SheetBeats t s m → ⊥) → First (Beats t m) (replies m) r → Asked t struck replies ms (noted s (record { plan = m; reply = r })) o s' → Asked t struck replies (m ∷ ms) s o s'
-  shows : {m : Row} {ms : List Row} {s : List Pair} → (Has struck m → ⊥) → (SheetBeats t s m → ⊥) → All (λ r. Beats t m r → ⊥) (replies m) → Asked t struck replies (m ∷ ms) s (Some m) s
+  shows : {m : Row} {ms : List Row} {s : List Pair} → (Has struck m → ⊥) → (SheetBeats t s m → ⊥) → AllByRecursion (λ r. Beats t m r → ⊥) (replies m) → Asked t struck replies (m ∷ ms) s (Some m) s
 
 -- what an ask says of the plans that are not struck
 pub data Verdict : Type 0 where

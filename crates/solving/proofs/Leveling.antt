@@ -1,6 +1,6 @@
 -- The number of atoms that an atom cannot reach is a level for it, where the program is stratified.
 use Rattle.std.proofs.Common.{◌≡◌, ℕ, zero, suc, ◌<◌, ◌≤◌, true, false, ltb, leb, List, [], ◌∷◌, length, Decides, sym, refl, ◌∙◌, subst, arith}
-use Rattle.std.specs.List.{ContainsAt as Has, AllByRecursion as All}
+use Rattle.std.specs.List.{ContainsAt as Has, AllByRecursion}
 use Rattle.std.proofs.ByRecursion.{all-has, All-from_get_or, All-get_or, has_append_left, has_append_right, all_has_itself, All-weaker, Decides-by_and}
 use Rattle.std.proofs.lemmas.Bool.{and_parts, le-leb, leb-true, false≢true}
 use Rattle.std.proofs.lemmas.Bool.Decides.{Decides-like, Decides-and, Decides-ltb}
@@ -22,26 +22,26 @@ edge_first edge (on path last) = on (edge_first edge path) last
 leb_decides : (a b : ℕ) → Decides (leb a b) (a ≤ b)
 leb_decides a b = (leb-true a b, le-leb a b)
 
-below_decides : (n : ℕ) (as' : List ℕ) → Decides (all_below n as') (All (λ a. a < n) as')
+below_decides : (n : ℕ) (as' : List ℕ) → Decides (all_below n as') (AllByRecursion (λ a. a < n) as')
 below_decides n as' = Decides-by_and (λ a. ltb a n) (λ a. a < n) (all_below n) (λ a. Decides-ltb a n) refl (λ _ _. refl) as'
 
-above_decides : (levels : List ℕ) (a : ℕ) (bs : List ℕ) → Decides (none_above levels a bs) (All (λ b. level_in levels b ≤ level_in levels a) bs)
+above_decides : (levels : List ℕ) (a : ℕ) (bs : List ℕ) → Decides (none_above levels a bs) (AllByRecursion (λ b. level_in levels b ≤ level_in levels a) bs)
 above_decides levels a bs = Decides-by_and (λ b. leb (level_in levels b) (level_in levels a)) (λ b. level_in levels b ≤ level_in levels a) (none_above levels a) (λ b. leb_decides (level_in levels b) (level_in levels a)) refl (λ _ _. refl) bs
 
-beneath_decides : (levels : List ℕ) (a : ℕ) (bs : List ℕ) → Decides (all_beneath levels a bs) (All (λ b. level_in levels b < level_in levels a) bs)
+beneath_decides : (levels : List ℕ) (a : ℕ) (bs : List ℕ) → Decides (all_beneath levels a bs) (AllByRecursion (λ b. level_in levels b < level_in levels a) bs)
 beneath_decides levels a bs = Decides-by_and (λ b. ltb (level_in levels b) (level_in levels a)) (λ b. level_in levels b < level_in levels a) (all_beneath levels a) (λ b. Decides-ltb (level_in levels b) (level_in levels a)) refl (λ _ _. refl) bs
 
 -- the levels fit one rule
 abbrev Fit : List ℕ → Rule → Type 0
-Fit levels r = (a : ℕ) → r.head ≡ atom a → All (λ b. level_in levels b ≤ level_in levels a) r.plain × All (λ b. level_in levels b < level_in levels a) r.negated
+Fit levels r = (a : ℕ) → r.head ≡ atom a → AllByRecursion (λ b. level_in levels b ≤ level_in levels a) r.plain × AllByRecursion (λ b. level_in levels b < level_in levels a) r.negated
 
 rule_decides : (levels : List ℕ) (h : Head) (r : Rule) → r.head ≡ h → Decides (rule_leveled levels h r) (Fit levels r)
 rule_decides levels none r e = (λ _ a head. absurd (let z : ◌≡◌ {A = ℕ} 0 1 = cc in omega arith), λ _. refl)
 rule_decides levels (atom a) r e =
-    Decides-like (rule_leveled levels (atom a) r) (λ (p, q) b head. let same : a ≡ b = cc in (subst (λ c. All (λ b. level_in levels b ≤ level_in levels c) r.plain) same p, subst (λ c. All (λ b. level_in levels b < level_in levels c) r.negated) same q)) (λ fit. fit a e)
+    Decides-like (rule_leveled levels (atom a) r) (λ (p, q) b head. let same : a ≡ b = cc in (subst (λ c. AllByRecursion (λ b. level_in levels b ≤ level_in levels c) r.plain) same p, subst (λ c. AllByRecursion (λ b. level_in levels b < level_in levels c) r.negated) same q)) (λ fit. fit a e)
     (Decides-and (none_above levels a r.plain) (all_beneath levels a r.negated) (above_decides levels a r.plain) (beneath_decides levels a r.negated))
 
-leveled_decides : (levels : List ℕ) (rules : List Rule) → Decides (leveled levels rules) (All (Fit levels) rules)
+leveled_decides : (levels : List ℕ) (rules : List Rule) → Decides (leveled levels rules) (AllByRecursion (Fit levels) rules)
 leveled_decides levels rules = Decides-by_and (λ r. rule_leveled levels r.head r) (Fit levels) (leveled levels) (λ r. rule_decides levels r.head r refl) refl (λ _ _. refl) rules
 
 pub leveled_fits : (levels : List ℕ) (rules : List Rule) → leveled levels rules ≡ true → Leveled rules (level_in levels)
@@ -50,11 +50,11 @@ leveled_fits levels rules e =
     record { plain = λ r a has head. (all-has (Fit levels) rules r all has a head).0; negated = λ r a has head. (all-has (Fit levels) rules r all has a head).1 }
 
 -- every rule of a program keeps its limits
-rules_kept : (n : ℕ) (rules : List Rule) → all_fit n rules ≡ true → All (Kept n) rules
+rules_kept : (n : ℕ) (rules : List Rule) → all_fit n rules ≡ true → AllByRecursion (Kept n) rules
 rules_kept n [] fits = tt
 rules_kept n (r ∷ rs) fits = let p = and_parts (rule_fits n r) _ fits in (kept n r p.0, rules_kept n rs p.1)
 
-all_from_has : {X : Type 0} (P : X → Type 0) (xs : List X) → ((x : X) → Has xs x → P x) → All P xs
+all_from_has : {X : Type 0} (P : X → Type 0) (xs : List X) → ((x : X) → Has xs x → P x) → AllByRecursion P xs
 all_from_has P xs each = All-weaker (Has xs) P each xs (all_has_itself xs)
 
 marked_some : (s : Row) (a : ℕ) → In a s → 0 < marked s
