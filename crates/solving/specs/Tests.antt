@@ -3,7 +3,11 @@ use Rattle.std.specs.Prelude.{ℕ, Bool, true, false, ◌&&◌, ◌||◌, List, 
 use Rattle.game.specs.Sets.{Row}
 use Rattle.game.specs.Rules.{Head, none, atom, Rule, heads}
 use Rattle.game.specs.Derives.{fires}
-use Rattle.game.specs.Published.{any_in}
+use Rattle.game.specs.Published.{any_in as published_any_in}
+
+-- some atom of the list is in s
+abbrev pub any_in : Row → List ℕ → Bool
+any_in s as' = published_any_in s as'
 
 -- a rule without a head is a constraint
 abbrev pub constraint : Head → Bool

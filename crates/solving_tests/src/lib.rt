@@ -4,8 +4,8 @@
 #[cfg(test)]
 mod answers;
 #[cfg(test)]
+mod judged;
+#[cfg(test)]
 mod judgements;
 #[cfg(test)]
 mod rows;
-#[cfg(test)]
-mod strata;
