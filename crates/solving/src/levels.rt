@@ -38,7 +38,8 @@ pub(crate) fn rank<const N: usize>(rules: &[Rule], none: &Row<N>) -> Levels<N>
 {
     let mut of = [0; N];
     for atom in 0..N {
-        of[atom] = N - reach(rules, none, atom).count();
+        let reached = reach(rules, none, atom);
+        of[atom] = N - reached.count();
     }
     Levels { of }
 }

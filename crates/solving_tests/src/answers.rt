@@ -1,68 +1,134 @@
-// Is a set an answer set?
-use crate::rows::{program_of, row_of};
+// Is a set an answer set? Atoms are numbered by first appearance in the text.
+use crate::rows::row_of;
+use reading::table::Atoms;
+use reading::text::read_text;
+use refusals::fault::{Fault, Text};
 use solving::answer::is_answer_set;
+use std::alloc::Global;
 use std::test::Fail;
 
-// A text, what is given, a row, and whether it is an answer set.
-type Case = (&'static str, &'static [u16], &'static [u16], bool);
+#[derive(Clone, Copy)]
+struct Case {
+    text: &'static [u8],
+    given: &'static [u16],
+    row: &'static [u16],
+    want: bool,
+}
 
-static CASES: [Case; 16] = [
-    ("a :- b. b :- a.", &[], &[], true),
-    ("a :- b. b :- a.", &[], &[0, 1], false),
-    ("a :- b. b :- a.", &[], &[0], false),
-    // a 0, b 1, c 2, d 3
-    (
-        "a :- not b. b :- c, not d. c :- a. d :- not b.",
-        &[],
-        &[0, 2, 3],
-        true,
-    ),
-    (
-        "a :- not b. b :- c, not d. c :- a. d :- not b.",
-        &[],
-        &[1],
-        false,
-    ),
-    (
-        "a :- not b. b :- c, not d. c :- a. d :- not b.",
-        &[],
-        &[0, 1, 2, 3],
-        false,
-    ),
-    ("a :- not a.", &[], &[], false),
-    ("a :- not a.", &[], &[0], false),
-    (":- .", &[], &[], false),
-    ("a :- .", &[], &[0], true),
-    ("a :- .", &[], &[], false),
-    // cut 0, wire 1, quiet 2
-    (
-        "cut :- wire, not quiet. quiet :- not cut.",
-        &[1],
-        &[0],
-        true,
-    ),
-    (
-        "cut :- wire, not quiet. quiet :- not cut.",
-        &[2],
-        &[0],
-        false,
-    ),
-    (
-        "cut :- wire, not quiet. quiet :- not cut.",
-        &[1],
-        &[0, 1],
-        false,
-    ),
-    ("a. :- a, not b.", &[1], &[0], true),
-    ("a. :- a, not b.", &[], &[0], false),
-];
+fn decided(heap: Global, case: Case) -> Result<bool, Fault> {
+    let (section, _atoms) = read_text(heap, Text::Plan, case.text, Atoms::new(heap))?;
+    Ok(is_answer_set(section.program(), &row_of(case.given), &row_of(case.row)))
+}
 
+const NONE: &[u16] = &[];
+
+// Every row of a small text, and what is given.
 #[test]
 fn sets(rt: HostRuntime) -> Result<(), Fail> {
-    for (text, given, row, want) in &CASES {
-        let program = program_of(rt.alloc(), text)?.ok_or("a limit")?;
-        let got = is_answer_set(&program, &row_of(given), &row_of(row));
-        assert_eq!(rt; got, *want, "{}", text);
+    let loop_of_two: &[u8] = b"a :- b. b :- a.";
+    let four: &[u8] = b"a :- not b. b :- c, not d. c :- a. d :- not b.";
+    let cases = [
+        Case {
+            text: loop_of_two,
+            given: NONE,
+            row: NONE,
+            want: true,
+        },
+        Case {
+            text: loop_of_two,
+            given: NONE,
+            row: &[0, 1],
+            want: false,
+        },
+        Case {
+            text: loop_of_two,
+            given: NONE,
+            row: &[0],
+            want: false,
+        },
+        // a 0, b 1, c 2, d 3
+        Case {
+            text: four,
+            given: NONE,
+            row: &[0, 2, 3],
+            want: true,
+        },
+        Case {
+            text: four,
+            given: NONE,
+            row: &[1],
+            want: false,
+        },
+        Case {
+            text: four,
+            given: NONE,
+            row: &[0, 1, 2, 3],
+            want: false,
+        },
+        Case {
+            text: b"a :- not a.",
+            given: NONE,
+            row: NONE,
+            want: false,
+        },
+        Case {
+            text: b"a :- not a.",
+            given: NONE,
+            row: &[0],
+            want: false,
+        },
+        Case {
+            text: b":- .",
+            given: NONE,
+            row: NONE,
+            want: false,
+        },
+        Case {
+            text: b"a :- .",
+            given: NONE,
+            row: &[0],
+            want: true,
+        },
+        Case {
+            text: b"a :- .",
+            given: NONE,
+            row: NONE,
+            want: false,
+        },
+        // cut 0, wire 1, quiet 2
+        Case {
+            text: b"cut :- wire, not quiet. quiet :- not cut.",
+            given: &[1],
+            row: &[0],
+            want: true,
+        },
+        Case {
+            text: b"cut :- wire, not quiet. quiet :- not cut.",
+            given: &[2],
+            row: &[0],
+            want: false,
+        },
+        Case {
+            text: b"cut :- wire, not quiet. quiet :- not cut.",
+            given: &[1],
+            row: &[0, 1],
+            want: false,
+        },
+        Case {
+            text: b"a. :- a, not b.",
+            given: &[1],
+            row: &[0],
+            want: true,
+        },
+        Case {
+            text: b"a. :- a, not b.",
+            given: NONE,
+            row: &[0],
+            want: false,
+        },
+    ];
+    for case in cases {
+        assert_eq!(rt; decided(rt.alloc(), case)?, case.want);
     }
     Ok(())
 }

@@ -1,30 +1,62 @@
 // The first rule that breaks the strata.
-use crate::rows::program_of;
+use crate::rows::row_of;
+use reading::table::Atoms;
+use reading::text::read_text;
+use refusals::fault::{Fault, Text};
 use solving::strata::unstratified_rule;
-use solving::stratified::Stratified;
+use std::alloc::Global;
 use std::test::Fail;
 
-static CASES: [(&str, Option<usize>); 8] = [
-    ("p :- not q. q :- p.", Some(0)),
-    ("q :- p. p :- not q.", Some(1)),
-    ("p :- p.", None),
-    ("p :- not p.", Some(0)),
-    ("a :- b. b :- not c. c :- d.", None),
-    ("a :- b. b :- not c. c :- d. d :- a.", Some(1)),
-    (":- not p, p.", None),
-    ("", None),
-];
+#[derive(Clone, Copy)]
+struct Case {
+    text: &'static [u8],
+    broken: Option<usize>,
+}
 
+fn broken(heap: Global, text: &[u8]) -> Result<Option<usize>, Fault> {
+    let (section, _atoms) = read_text(heap, Text::Site, text, Atoms::new(heap))?;
+    Ok(unstratified_rule(section.program()))
+}
+
+// The first rule that breaks the strata.
 #[test]
 fn strata(rt: HostRuntime) -> Result<(), Fail> {
-    for (text, want) in &CASES {
-        let program = program_of(rt.alloc(), text)?.ok_or("a limit")?;
-        assert_eq!(rt; unstratified_rule(&program), *want, "{}", text);
-        let got = match Stratified::new(program) {
-            Ok(_) => None,
-            Err(place) => Some(place),
-        };
-        assert_eq!(rt; got, *want, "{}", text);
+    let cases = [
+        Case {
+            text: b"p :- not q. q :- p.",
+            broken: Some(0),
+        },
+        Case {
+            text: b"q :- p. p :- not q.",
+            broken: Some(1),
+        },
+        Case {
+            text: b"p :- p.",
+            broken: None,
+        },
+        Case {
+            text: b"p :- not p.",
+            broken: Some(0),
+        },
+        Case {
+            text: b"a :- b. b :- not c. c :- d.",
+            broken: None,
+        },
+        Case {
+            text: b"a :- b. b :- not c. c :- d. d :- a.",
+            broken: Some(1),
+        },
+        Case {
+            text: b":- not p, p.",
+            broken: None,
+        },
+        Case {
+            text: b"",
+            broken: None,
+        },
+    ];
+    for case in cases {
+        assert_eq!(rt; broken(rt.alloc(), case.text)?, case.broken);
     }
     Ok(())
 }

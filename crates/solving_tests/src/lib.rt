@@ -9,3 +9,5 @@ mod judged;
 mod judgements;
 #[cfg(test)]
 mod rows;
+#[cfg(test)]
+mod strata;

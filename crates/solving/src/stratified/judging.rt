@@ -48,7 +48,8 @@ impl Stratified<96> {
     pub fn holds(&self, given: &Row<96>) -> bool
         ensures { Judged (rules_of self.now.program) given.now.marks result }
     {
-        !violates(self.program.rules(), &self.settle(given))
+        let set = self.settle(given);
+        !violates(self.program.rules(), &set)
     }
 
     // The answer set of the headed rules with these atoms given: the only one, where no given atom is a head. It holds no given atom.

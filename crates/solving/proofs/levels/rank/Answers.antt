@@ -12,11 +12,11 @@ pub loop-atom-init : goal.loop-atom-init
 loop-atom-init g c = (length-replicate g.row.N 0, λ a less. absurd (omega arith))
 
 pub overflow_sub-of : goal.overflow_sub-of
-overflow_sub-of g c = omega (arith, c.count.ensures, marked_length c.reach.result.marks, c.reach.result.wide)
+overflow_sub-of g c = omega (arith, c.count.ensures, marked_length c.reach-reached.result.marks, c.reach-reached.result.wide)
 
 pub loop-atom-preserved : goal.loop-atom-preserved
 loop-atom-preserved g c =
-    let s = c.reach.result.marks in
+    let s = c.reach-reached.result.marks in
     let i = c.loop-atom.atom in
     let of = c.loop-atom.of in
     let v = g.row.N - c.count.result in (
@@ -25,6 +25,6 @@ loop-atom-preserved g c =
           ⊎_elim
           (λ same.
           let value : get_or (set of i v) a 0 ≡ v = ap (λ k. get_or (set of i v) k 0) same ∙ get_or-set_same of i v 0 (omega (arith, c.loop-atom.invariant.0, c.loop-atom-test.true)) in
-          (s, subst (λ k. Reached (models c.args.rules.now) k s) (sym same) c.reach.ensures, c.reach.result.wide, omega (arith, value, c.count.ensures, marked_length s, c.reach.result.wide)))
+          (s, subst (λ k. Reached (models c.args.rules.now) k s) (sym same) c.reach-reached.ensures, c.reach-reached.result.wide, omega (arith, value, c.count.ensures, marked_length s, c.reach-reached.result.wide)))
           (λ other. let old = c.loop-atom.invariant.1 a (omega arith) in (old.0, old.1, old.2, ap (λ l. l + marked old.0) (get_or-set_other of i a v 0 other) ∙ old.3)) (cases_eq a i),
     )

@@ -7,5 +7,5 @@ use Rattle.solving.proofs.stratified.judging.Stratified+96.holds.Goals as goal
 pub returns : goal.returns
 returns c =
     let self = c.args.self.now in
-    judged 96 (rules_of self.program) self.levels.of c.args.given.now.marks c.settle.result.marks self.program.kept self.fit self.low self.levels.wide c.args.given.now.wide c.settle.ensures c.violates.result
-    (c.violates.ensures ∙ ap (λ rs. violated rs c.settle.result.marks) c.rules.ensures)
+    judged 96 (rules_of self.program) self.levels.of c.args.given.now.marks c.settle-set.result.marks self.program.kept self.fit self.low self.levels.wide c.args.given.now.wide c.settle-set.ensures c.violates.result
+    (c.violates.ensures ∙ ap (λ rs. violated rs c.settle-set.result.marks) c.rules.ensures)
