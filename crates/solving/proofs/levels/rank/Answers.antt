@@ -11,8 +11,10 @@ use Rattle.solving.proofs.levels.rank.Goals as goal
 pub loop-atom-init : goal.loop-atom-init
 loop-atom-init g c = (length-replicate g.row.N 0, λ a less. absurd (omega arith))
 
+-- no row of this width has more marks than that, so this leaves open which row is counted
 pub overflow_sub-of : goal.overflow_sub-of
-overflow_sub-of g c = omega (arith, c.count.ensures, marked_length c.reach-reached.result.marks, c.reach-reached.result.wide)
+overflow_sub-of g c =
+    omega (arith, c.count.ensures, marked_length c.reach-reached.result.marks, c.reach-reached.result.wide, marked_length c.args.none.now.marks, c.args.none.now.wide)
 
 pub loop-atom-preserved : goal.loop-atom-preserved
 loop-atom-preserved g c =
