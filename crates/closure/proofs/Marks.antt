@@ -23,10 +23,10 @@ get_or-union (x ∷ s) [] k = or_nothing (get_or (x ∷ s) k false)
 get_or-union (x ∷ s) (y ∷ t) zero = refl
 get_or-union (x ∷ s) (y ∷ t) (suc k) = get_or-union s t k
 
-pub length_union : (n : ℕ) (s t : Row) → length s ≡ n → length t ≡ n → length (union s t) ≡ n
-length_union n [] t p q = q
-length_union n (x ∷ s) [] p q = p
-length_union n (x ∷ s) (y ∷ t) p q = let e : length (union s t) ≡ length s = length_union (length s) s t refl (omega arith) in omega arith
+pub length-union : (n : ℕ) (s t : Row) → length s ≡ n → length t ≡ n → length (union s t) ≡ n
+length-union n [] t p q = q
+length-union n (x ∷ s) [] p q = p
+length-union n (x ∷ s) (y ∷ t) p q = let e : length (union s t) ≡ length s = length-union (length s) s t refl (omega arith) in omega arith
 
 pub get_or-minus : (s t : Row) (k : ℕ) → get_or (minus s t) k false ≡ (get_or s k false && not (get_or t k false))
 get_or-minus [] t k = refl
@@ -64,7 +64,7 @@ pub union_from :
     (n : ℕ) (r s t : Row) → length r ≡ n → length s ≡ n → length t ≡ n
     → ((k : ℕ) → k < n → get_or r k false ≡ cond (get_or t k false) true (get_or s k false)) → r ≡ union s t
 union_from n r s t p q w h =
-    ext_get_or false r (union s t) (p ∙ sym (length_union n s t q w))
+    ext_get_or false r (union s t) (p ∙ sym (length-union n s t q w))
     (λ k l. h k (omega arith) ∙ or_laid (get_or s k false) (get_or t k false) ∙ sym (get_or-union s t k))
 
 pub minus_from :

@@ -9,7 +9,7 @@ use Rattle.game.specs.Derives.{derives, SmallestClosed}
 use Rattle.game.specs.Heads.{Lists, Among, sets_of_heads}
 use Rattle.game.proofs.Deriving.{HeadsBelow, derives_grows, closed_smallest, smallest_closed, one_closed}
 use Rattle.game.proofs.HeadSets.{answers_kept}
-use Rattle.game.proofs.Rows.{length_union}
+use Rattle.game.proofs.Rows.{length-union}
 use Rattle.closure.proofs.Existing.{closure_of, closure_smallest}
 use Rattle.programs.specs.Limits.{all_fit}
 use Rattle.solving.specs.Tests.{violated}
@@ -68,7 +68,7 @@ module _ (rules : List Rule) (given : Row) (fits : all_fit (length given) rules 
     passes : AnswerSet rules given i → Passes
     unfolding all
     passes answer = (
-      one_closed (length given) (derives rules all) given _ all found (smallest_closed (length given) rules all below given all (length_union i given heads.width) answer.smallest),
+      one_closed (length given) (derives rules all) given _ all found (smallest_closed (length given) rules all below given all (length-union i given heads.width) answer.smallest),
       allowed_violated rules all answer.allowed,
     )
 

@@ -13,7 +13,7 @@ use Rattle.game.specs.Sides.{Side, some_plan, every_plan}
 use Rattle.game.specs.AnswerSets.{AnswerSet}
 use Rattle.game.specs.Game.{Texts, Plan, Reply, Beats, Wins, Holds, Refutes, Coherent, nothing}
 use Rattle.game.specs.Heads.{Lists}
-use Rattle.game.proofs.Rows.{length_union}
+use Rattle.game.proofs.Rows.{length-union}
 use Rattle.game.proofs.StrataLists.{has_first, has_later, has_cases}
 use Rattle.programs.specs.Limits.{all_fit}
 use Rattle.runs.specs.Book.{Pair, SheetBeats, First, Coherence, coherent, incoherent, IsCoherence}
@@ -105,7 +105,7 @@ module _ (t : Texts) (fit : Fit t) where
       replies = listed t.faults m fit.faults wide
 
       judged : Reply t m r → Decides (refuted t.side (holds m r)) (Refutes t.side (Holds t m r))
-      judged reply = refuted_decides t.side (holds m r) (some_row_decides _ _ (listed t.site (union m r) fit.site (length_union m r (sym reply.width) ∙ (reply.width ∙ wide))))
+      judged reply = refuted_decides t.side (holds m r) (some_row_decides _ _ (listed t.site (union m r) fit.site (length-union m r (sym reply.width) ∙ (reply.width ∙ wide))))
 
   abbrev pub dec_beats : (m : Row) → Wide m → (r : Row) → Dec (Beats t m r)
   dec_beats m wide r = dec_by (beats m r) (beats_decides m r wide)

@@ -6,7 +6,7 @@ use Rattle.game.specs.Rules.{Rule, Kept, Obeys}
 use Rattle.game.specs.AnswerSets.{Smallest}
 use Rattle.game.proofs.Deriving.{plain_grows}
 use Rattle.closure.specs.Rows.{minus}
-use Rattle.closure.proofs.Marks.{in_minus, minus_in, in_union, union_left, union_right, length_union, same_rows}
+use Rattle.closure.proofs.Marks.{in_minus, minus_in, in_union, union_left, union_right, length-union, same_rows}
 use Rattle.solving.specs.Bounds.{Broken}
 use Rattle.finders.specs.Between.{Between, Narrower}
 
@@ -49,7 +49,7 @@ pub record Lessening (n : ℕ) (rules : List Rule) (given low high u h : Row) : 
 
 module _ {n : ℕ} {rules : List Rule} {given low high u h : Row} (w : Lessening n rules given low high u h) where
   united : (i : Row) → Between rules given low high i → length (union i given) ≡ n
-  united i b = length_union n i given (b.answer.width ∙ w.given_wide) w.given_wide
+  united i b = length-union n i given (b.answer.width ∙ w.given_wide) w.given_wide
 
   still_below : (i : Row) → Between rules given low high i → Within (union i given) h
   still_below i b a inside = subst (In a) (sym w.h_is) (in_both high u a (b.below a inside) (derivable_above b u (w.u_wide ∙ sym (united i b)) w.derivable a inside))
@@ -57,7 +57,7 @@ module _ {n : ℕ} {rules : List Rule} {given low high u h : Row} (w : Lessening
   -- what is in every answer set between the bounds lies within h, or there is none
   outside : (l : Row) → length l ≡ n → ((i : Row) → Between rules given low high i → Within l (union i given)) → (union l h ≡ h → ⊥) → (i : Row) → Between rules given low high i → ⊥
   outside l wide above differ i b =
-      differ (same_rows (union l h) h (length_union n l h wide w.h_wide ∙ sym w.h_wide) (λ a inside. ⊎_elim (λ must. still_below i b a (above i b a must)) (λ may. may) (in_union l h a inside)) (union_right l h))
+      differ (same_rows (union l h) h (length-union n l h wide w.h_wide ∙ sym w.h_wide) (λ a inside. ⊎_elim (λ must. still_below i b a (above i b a must)) (λ may. may) (in_union l h a inside)) (union_right l h))
 
   -- what is settled and cannot be derived
   pub underived_none : (union low h ≡ h → ⊥) → (i : Row) → Between rules given low high i → ⊥

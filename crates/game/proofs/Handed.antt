@@ -8,7 +8,7 @@ use Rattle.game.specs.Rules.{Rule, stands, is_head, PlainIn, Obeys}
 use Rattle.game.specs.AnswerSets.{AnswerSet, Smallest, Allowed}
 use Rattle.game.specs.Published.{reduct, Model, Stable, fixed}
 use Rattle.game.proofs.Each.{all_parts}
-use Rattle.game.proofs.Rows.{in_width, same_rows, union_cases, union_left, union_right, length_union, row, length-row, in_row, row_passes, both, in_both, both_parts}
+use Rattle.game.proofs.Rows.{in_width, same_rows, union_cases, union_left, union_right, length-union, row, length-row, in_row, row_passes, both, in_both, both_parts}
 use Rattle.game.proofs.Heads.{head_of, head_stands, stands_left, stands_right}
 use Rattle.game.proofs.Reducts.{Meets, Lets, met_parts, reduct_model}
 use Rattle.game.proofs.Fixing.{fixed_met, member_stands}
@@ -86,7 +86,7 @@ module _ {n : ℕ} {base rules : List Rule} {m : Row} (h : Fixable n base rules 
     own_width = length-row n _ ∙ sym h.width
 
     own_union : x ≡ union own m
-    own_union = same_rows x (union own m) (stable.width ∙ sym h.width ∙ sym (length_union own m own_width)) to back
+    own_union = same_rows x (union own m) (stable.width ∙ sym h.width ∙ sym (length-union own m own_width)) to back
       where
         to : Within x (union own m)
         to a k = elim (fixed_or_head a k) [ inl j ↦ union_right own m a j | inr e ↦ union_left own m a (in_row n _ a (in_width x stable.width a k) (and_from (get_or x a false) (is_head rules a) k e)) ]
@@ -123,7 +123,7 @@ module _ {n : ℕ} {base rules : List Rule} {m : Row} (h : Fixable n base rules 
         }
       where
         width : length (union i m) ≡ n
-        width = length_union i m answer.width ∙ h.width
+        width = length-union i m answer.width ∙ h.width
 
   pub stable_is_answer : (x : Row) → Stable n (rules ++ fixed n base m) x ↔ ((i : Row) × AnswerSet rules m i × (x ≡ union i m))
   stable_is_answer x = (λ stable. (own x stable, own_answer x stable, own_union x stable), λ (i, answer, e). subst (Stable n (rules ++ fixed n base m)) (sym e) (answer_stable i answer))

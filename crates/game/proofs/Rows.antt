@@ -40,10 +40,10 @@ union_left (x ∷ s) (y ∷ t) (suc a) h = union_left s t a h
 pub union_right : (s t : Row) → Within t (union s t)
 union_right s t a h = rw union_comm (union_left t s a h)
 
-pub length_union : (s t : Row) → length s ≡ length t → length (union s t) ≡ length t
-length_union [] t same = refl
-length_union (x ∷ s) [] same = same
-length_union (x ∷ s) (y ∷ t) same = ap suc (length_union s t (omega arith))
+pub length-union : (s t : Row) → length s ≡ length t → length (union s t) ≡ length t
+length-union [] t same = refl
+length-union (x ∷ s) [] same = same
+length-union (x ∷ s) (y ∷ t) same = ap suc (length-union s t (omega arith))
 
 pub in_none : (n a : ℕ) → In a (replicate n false) → ⊥
 in_none zero a h = false≢true h
@@ -51,7 +51,7 @@ in_none (suc n) zero h = false≢true h
 in_none (suc n) (suc a) h = in_none n a h
 
 pub union_none : (n : ℕ) (s : Row) → length s ≡ n → union s (replicate n false) ≡ s
-union_none n s width = same_rows (union s none) s (length_union s none same ∙ sym same) only (union_left s none)
+union_none n s width = same_rows (union s none) s (length-union s none same ∙ sym same) only (union_left s none)
   where
     none : Row
     none = replicate n false

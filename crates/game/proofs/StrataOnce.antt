@@ -6,7 +6,7 @@ use Rattle.game.specs.Sets.{Row, In, Within, union}
 use Rattle.game.specs.Rules.{Rule, headed, is_head, Obeys}
 use Rattle.game.specs.AnswerSets.{Smallest, AnswerSet}
 use Rattle.game.specs.Strata.{Leveled, OneAnswerAtMost}
-use Rattle.game.proofs.StrataRows.{decides_itself, part, length_part, in_part, in_union, length_union, same_rows}
+use Rattle.game.proofs.StrataRows.{decides_itself, part, length-part, in_part, in_union, length-union, same_rows}
 use Rattle.game.proofs.Deriving.{plain_grows}
 use Rattle.game.proofs.StrataHeaded.{headed_smallest, is_head_headed}
 use Rattle.game.proofs.StrataLevels.{plain_upto, kept_below}
@@ -41,7 +41,7 @@ module _ {rules : List Rule} {level : ℕ → ℕ} (leveled : Leveled rules leve
   follows_next : (k : ℕ) → Follows level k x y → Follows level (suc k) y x
   follows_next k follows a low i =
       let t : Row = shared level (suc k) x y in
-      let all = own-y.least t (length_part _ y) (λ b g. (in_shared level (suc k) x y b).1 (own-y.around b g, λ _. own_x.around b g)) (shared_obeys k follows) in
+      let all = own-y.least t (length-part _ y) (λ b g. (in_shared level (suc k) x y b).1 (own-y.around b g, λ _. own_x.around b g)) (shared_obeys k follows) in
       ((in_shared level (suc k) x y a).0 (all a i)).1 low
 
 module _ {rules : List Rule} {level : ℕ → ℕ} (leveled : Leveled rules level) (given x y : Row) (own_x : Smallest rules given x x) (own-y : Smallest rules given y y) where
@@ -65,7 +65,7 @@ module _ (rules : List Rule) (given x y : Row) (apart : (a : ℕ) → In a given
 
 pub one_answer_at_most : OneAnswerAtMost
 one_answer_at_most rules level given x y leveled apart ans-x ans-y =
-    let width_x : length (union x given) ≡ length given = length_union x given ans-x.width in
-    let width_y : length (union y given) ≡ length given = length_union y given ans-y.width in
+    let width_x : length (union x given) ≡ length given = length-union x given ans-x.width in
+    let width_y : length (union y given) ≡ length given = length-union y given ans-y.width in
     let same : union x given ≡ union y given = one_smallest leveled given (union x given) (union y given) (answer_smallest rules given x ans-x) (answer_smallest rules given y ans-y) (width_x ∙ sym width_y) in
     same_rows x y (ans-x.width ∙ sym ans-y.width) (answer_within rules given x y apart ans-x same) (answer_within rules given y x apart ans-y (sym same))

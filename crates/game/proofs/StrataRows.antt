@@ -25,20 +25,20 @@ get_or-union (x ∷ s) (y ∷ t) (suc a) = get_or-union s t a
 pub in_union : (s t : Row) (a : ℕ) → Decides (get_or (union s t) a false) (In a s ⊎ In a t)
 in_union s t a = Decides-at _ _ (get_or-union s t a) (Decides-or _ _ (decides_itself (get_or s a false)) (decides_itself (get_or t a false)))
 
-pub length_union : (s t : Row) → length s ≡ length t → length (union s t) ≡ length t
-length_union [] t e = refl
-length_union (x ∷ s) [] e = e
-length_union (x ∷ s) (y ∷ t) e = ap suc (length_union s t (omega arith))
+pub length-union : (s t : Row) → length s ≡ length t → length (union s t) ≡ length t
+length-union [] t e = refl
+length-union (x ∷ s) [] e = e
+length-union (x ∷ s) (y ∷ t) e = ap suc (length-union s t (omega arith))
 
 -- the members of s that pass a test
 unfoldable pub part : (ℕ → Bool) → Row → Row
 part f [] = []
 part f (x ∷ s) = (x && f 0) ∷ part (λ a. f (suc a)) s
 
-pub length_part : (f : ℕ → Bool) (s : Row) → length (part f s) ≡ length s
+pub length-part : (f : ℕ → Bool) (s : Row) → length (part f s) ≡ length s
 unfolding part
-length_part f [] = refl
-length_part f (x ∷ s) = ap suc (length_part (λ a. f (suc a)) s)
+length-part f [] = refl
+length-part f (x ∷ s) = ap suc (length-part (λ a. f (suc a)) s)
 
 get_d_part : (f : ℕ → Bool) (s : Row) (a : ℕ) → get_or (part f s) a false ≡ (get_or s a false && f a)
 unfolding part

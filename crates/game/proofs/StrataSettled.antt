@@ -8,7 +8,7 @@ use Rattle.game.specs.Rules.{Rule, atom, headed, is_head, Obeys, Kept, PlainIn}
 use Rattle.game.specs.AnswerSets.{Smallest, Allowed, AnswerSet}
 use Rattle.game.specs.Derives.{derives_at, Closed, SmallestClosed, Settles, settled, settle}
 use Rattle.game.specs.Strata.{Leveled}
-use Rattle.game.proofs.StrataRows.{decides_itself, part, length_part, in_part, in_union, length_union, same_rows}
+use Rattle.game.proofs.StrataRows.{decides_itself, part, length-part, in_part, in_union, length-union, same_rows}
 use Rattle.game.proofs.Deriving.{Grows, HeadsBelow, derives_at_decides, derives_at_grows, head_is_head}
 use Rattle.game.proofs.StrataHeaded.{smallest_headed, is_head_headed, headed_allowed}
 use Rattle.game.proofs.StrataLevels.{plain_upto, kept_below}
@@ -16,7 +16,7 @@ use Rattle.game.proofs.StrataOnce.{one_smallest}
 
 -- a member of the smallest closed set around a start is of the start or follows from the set
 pub supported : (n : ℕ) (f : Row → ℕ → Bool) (start s : Row) → Grows f → SmallestClosed n f start s → (a : ℕ) → In a s → In a start ⊎ (f s a ≡ true)
-supported n f start s grows c a i = ((holds a).0 (c.least t (length_part _ s ∙ c.width) (λ b g. (holds b).1 (c.around b g, inl g)) closed a i)).1
+supported n f start s grows c a i = ((holds a).0 (c.least t (length-part _ s ∙ c.width) (λ b g. (holds b).1 (c.around b g, inl g)) closed a i)).1
   where
     t : Row
     t = part (λ b. get_or start b false || f s b) s
@@ -116,7 +116,7 @@ new_part given s = in_part _ (λ a. In a given → ⊥) (λ a. Decides-not _ (de
 -- a set of one width with what is given, and its new members
 module _ (given s i : Row) (around : Within given s) (wide : length s ≡ length given) (width : length i ≡ length given) (new : New given s i) where
   pub union_new : union i given ≡ s
-  union_new = same_rows (union i given) s (length_union i given width ∙ sym wide) within back
+  union_new = same_rows (union i given) s (length-union i given width ∙ sym wide) within back
     where
       within : Within (union i given) s
       within a h = elim ((in_union i given a).0 h) [ inl j ↦ ((new a).0 j).0 | inr g ↦ around a g ]
@@ -150,7 +150,7 @@ module _ {w : ℕ} {rules : List Rule} {level : ℕ → ℕ} {top : ℕ} {given 
 
   -- an answer set with what is given is the settled set
   pub answer_settled : (j : Row) → AnswerSet rules given j → union j given ≡ s
-  answer_settled j ans = one_smallest x.leveled given (union j given) s ans.smallest (settled_smallest x) (length_union j given ans.width ∙ sym settled_wide)
+  answer_settled j ans = one_smallest x.leveled given (union j given) s ans.smallest (settled_smallest x) (length-union j given ans.width ∙ sym settled_wide)
 
   pub answer_allows : (j : Row) → AnswerSet rules given j → Allowed rules s
   answer_allows j ans = rw (answer_settled j ans) at ans.allowed

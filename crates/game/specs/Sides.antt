@@ -1,8 +1,8 @@
 -- The two sides of the game.
 use Rattle.std.specs.Prelude.{ℕ}
 
--- `some-plan` reads: some plan, every reply, the site text holds
--- `every-plan` reads: every plan, some reply, the site text holds
+-- `some_plan` reads: some plan, every reply, the site text holds
+-- `every_plan` reads: every plan, some reply, the site text holds
 pub data Side : Type 0 where
   some_plan : Side
   every_plan : Side

@@ -83,7 +83,7 @@ module _ (ms : List Name) where
         go true = (λ e. never (cc), λ h. absurd (true≢false h.0))
         go false = (λ e. (refl, rest.0 e), λ h. rest.1 h.1)
 
-    -- `taken-head` goes down rules and places together, so there is a place for each rule
+    -- `taken_head` goes down rules and places together, so there is a place for each rule
     all_new : (ws : List Written) (places : List ℕ) → length places ≡ length ws → AllByRecursion (Known table) (names ws) → (taken_head (map (numbered table) ws) places earlier ≡ None ↔ AllByRecursion New (heads ws))
     all_new [] places same k = (λ e. tt, λ h. refl)
     all_new (w ∷ ws) [] same k = absurd (omega arith)

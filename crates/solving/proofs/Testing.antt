@@ -6,7 +6,7 @@ use Rattle.game.specs.Sets.{Row, In, union}
 use Rattle.game.specs.Rules.{Head, none, atom, Rule, heads, is_head, Kept, PlainIn}
 use Rattle.game.specs.AnswerSets.{AnswerSet, Allowed, Smallest}
 use Rattle.game.proofs.Deriving.{HeadsBelow, decides_some, fires_decides}
-use Rattle.closure.proofs.Marks.{in_below, same_rows, in_union, union_left, union_right, length_union}
+use Rattle.closure.proofs.Marks.{in_below, same_rows, in_union, union_left, union_right, length-union}
 use Rattle.programs.specs.Limits.{all_fit, rule_fits, head_below, fits}
 use Rattle.programs.proofs.Fitting.{kept}
 use Rattle.solving.specs.Tests.{constraint, violated, violated_on}
@@ -59,13 +59,13 @@ module _ {n : ℕ} {rules : List Rule} {given row hs : Row} (t : Trial n rules g
   -- only heads are marked
   pub only_heads : AnswerSet rules given row → union row hs ≡ hs
   only_heads ans =
-      same_rows (union row hs) hs (length_union n row hs t.row_wide t.hs_wide ∙ sym t.hs_wide)
+      same_rows (union row hs) hs (length-union n row hs t.row_wide t.hs_wide ∙ sym t.hs_wide)
       (λ a e. ⊎_elim (λ marked. t.is a (let h = in_below row a marked in omega (arith, t.row_wide)) ∙ ans.heads a marked) (λ head. head) (in_union row hs a e)) (union_right row hs)
 
   -- c is the smallest set around the given atoms that obeys the reduct for x, which is the row with the given atoms
   module _ (x c : Row) (all : x ≡ union row given) (wide : length c ≡ n) (smallest : Smallest rules given x c) where
     united_wide : length (union row given) ≡ n
-    united_wide = length_union n row given t.row_wide t.given_wide
+    united_wide = length-union n row given t.row_wide t.given_wide
 
     found : Smallest rules given (union row given) c
     found = subst (λ s. Smallest rules given s c) all smallest
