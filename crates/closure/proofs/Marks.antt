@@ -1,9 +1,31 @@
 -- Rows of marks, place by place.
-use Rattle.std.proofs.Common.{◌≡◌, ℕ, zero, suc, ◌+◌, ◌<◌, ◌≤◌, Bool, true, false, cond, not, ◌&&◌, ◌||◌, eqb, ◌⊎◌, [], ◌∷◌, length, get_or, drop, set, sym, refl, ap, ◌∙◌, ⊎_elim, arith}
-use Rattle.std.proofs.lemmas.List.{get_or-set_same, get_or-set_other, ext_get_or, get_or_past, at_drop_more}
-use Rattle.std.proofs.lemmas.Bool.{cases_eq, eq-eqb, ne_eqb, cases_lt, cond-true, cond-false, cases_Bool, both_ways, false≢true, or_cases, or_left, or_right, and_parts, and_from, not-true, not_from_false}
+use Rattle.std.proofs.Common.{◌≡◌, ℕ, zero, suc, ◌<◌, ◌≤◌, Bool, true, false, cond, not, ◌&&◌, ◌||◌, ◌⊎◌, [], ◌∷◌, length, get_or, sym, refl, ap, subst, ◌∙◌, ⊎_elim, arith}
+use Rattle.std.proofs.lemmas.List.{ext_get_or, get_or_past}
+use Rattle.std.proofs.lemmas.Bool.{cases_lt, cases_Bool, both_ways, false≢true, or_cases, or_left, or_right, and_parts, and_from, not-true, not_from_false}
+use Rattle.std.proofs.Math.Bool.{beq}
+use Rattle.std.proofs.lemmas.List.Recursion.{is_count_by}
+use Rattle.std.specs.Bool.{Decides}
+use Rattle.std.specs.Cmp.{booleans_Decides}
+use Rattle.std.specs.Cmp.Lexicographic.{pointwise, pointwise_decides}
+use Rattle.std.specs.List.{count_by}
 use Rattle.game.specs.Sets.{Row, In, Within, union}
 use Rattle.closure.specs.Rows.{marked, minus}
+
+-- a test of two rows tells whether they have the same marks
+pub told_same : (s t : Row) (r : Bool) → r ≡ pointwise beq s t → Decides r (s ≡ t)
+told_same s t r e = subst (λ b. Decides b (s ≡ t)) (sym e) (pointwise_decides booleans_Decides s t)
+
+-- the same of a test that they differ
+pub told_other : (s t : Row) (r : Bool) → r ≡ not (pointwise beq s t) → Decides (not r) (s ≡ t)
+told_other s t r e = told_same s t (not r) (ap not e ∙ twice (pointwise beq s t))
+  where
+    twice : (b : Bool) → not (not b) ≡ b
+    twice true = refl
+    twice false = refl
+
+-- the marks counted
+pub marked_counted : (s : Row) → marked s ≡ count_by (λ m. m) s
+marked_counted = is_count_by marked (λ m. m) refl (λ x s. ap (λ n. cond x n (marked s)) (omega arith))
 
 pub or_nothing : (x : Bool) → x ≡ (x || false)
 or_nothing true = refl
@@ -39,15 +61,6 @@ length-minus [] t = refl
 length-minus (x ∷ s) [] = refl
 length-minus (x ∷ s) (y ∷ t) = ap suc (length-minus s t)
 
--- one mark more; past the row's end there is none
-pub get_or-put : (s : Row) (i k : ℕ) → k < length s → get_or (set s i true) k false ≡ (get_or s k false || eqb i k)
-get_or-put s i k l =
-    ⊎_elim
-    (λ e. let within : i < length s = omega arith in
-    ap (λ j. get_or (set s i true) j false) (sym e) ∙ get_or-set_same s i true false within ∙ sym (or_right (get_or s k false) (eqb i k) (eq-eqb i k e)))
-    (λ ne. get_or-set_other s i k true false (λ e. ne (sym e)) ∙ or_nothing (get_or s k false) ∙ ap (λ b. get_or s k false || b) (sym (ne_eqb i k ne)))
-    (cases_eq i k)
-
 or_laid : (x y : Bool) → cond y true x ≡ (x || y)
 or_laid true true = refl
 or_laid true false = refl
@@ -73,16 +86,6 @@ pub minus_from :
 minus_from n r s t p q h =
     ext_get_or false r (minus s t) (p ∙ sym q ∙ sym (length-minus s t))
     (λ k l. h k (omega arith) ∙ and_laid (get_or s k false) (get_or t k false) ∙ sym (get_or-minus s t k))
-
-pub marked_step : (s : Row) (i n : ℕ) (b : Bool) → i < length s → get_or s i false ≡ b → cond b (n + 1) n + marked (drop (i + 1) s) ≡ n + marked (drop i s)
-marked_step s i n true l e =
-    let here : marked (drop i s) ≡ cond (get_or s i false) (suc (marked (drop (i + 1) s))) (marked (drop (i + 1) s)) = at_drop_more marked s i false l in
-    let more : marked (drop i s) ≡ suc (marked (drop (i + 1) s)) = here ∙ cond-true _ _ _ e in
-    omega arith
-marked_step s i n false l e =
-    let here : marked (drop i s) ≡ cond (get_or s i false) (suc (marked (drop (i + 1) s))) (marked (drop (i + 1) s)) = at_drop_more marked s i false l in
-    let more : marked (drop i s) ≡ marked (drop (i + 1) s) = here ∙ cond-false _ _ _ e in
-    omega arith
 
 -- Inclusion and counts.
 

@@ -1,11 +1,10 @@
 -- What holds of a set that was reached by whole rounds.
-use Rattle.std.proofs.Common.{◌≡◌, ℕ, ◌<◌, Bool, true, false, ◌||◌, eqb, length, get_or, set, sym, ap, ◌∙◌, ⊎_elim, arith}
-use Rattle.std.proofs.lemmas.List.{length-set}
+use Rattle.std.proofs.Common.{◌≡◌, ℕ, ◌<◌, Bool, true, false, length, get_or, sym, ◌∙◌, ⊎_elim, arith}
 use Rattle.std.proofs.lemmas.Bool.{or_cases, or_left, or_right}
 use Rattle.game.specs.Sets.{Row, In, Within}
 use Rattle.game.specs.Derives.{Closed, SmallestClosed}
 use Rattle.closure.specs.Steps.{Monotone, Marked, Rounds, still, round}
-use Rattle.closure.proofs.Marks.{in_below, or_nothing, or_assoc, get_or-put}
+use Rattle.closure.proofs.Marks.{in_below}
 
 -- a member of the next set is one of the set before it, or follows from that
 pub marked_cases : (n : ℕ) (f : ℕ → Bool) (was is : Row) → Marked n f was is → (P : ℕ → Type 0) → ((a : ℕ) → In a was → P a) → ((a : ℕ) → a < n → f a ≡ true → P a) → (a : ℕ) → In a is → P a
@@ -58,17 +57,3 @@ rounds_smallest n f s r e grows p m = record {
 }
 
 -- For the loop of a step's `mark`: nothing marked yet, one atom more, and another test for the same atoms.
-
-pub marked_none : (n : ℕ) (s : Row) → length s ≡ n → Marked n (λ _. false) s s
-marked_none n s e = record { width = e; each = λ a l. or_nothing (get_or s a false) }
-
-pub marked_put : (n : ℕ) (f : ℕ → Bool) (was is : Row) (i : ℕ) → Marked n f was is → Marked n (λ a. f a || eqb i a) was (set is i true)
-marked_put n f was is i m = record {
-  width = length-set is i true ∙ m.width;
-  each = λ a l.
-      let below : a < length is = omega (arith, m.width) in
-      get_or-put is i a below ∙ ap (λ b. b || eqb i a) (m.each a l) ∙ or_assoc (get_or was a false) (f a) (eqb i a);
-}
-
-pub marked_like : (n : ℕ) (f g : ℕ → Bool) (was is : Row) → ((a : ℕ) → a < n → f a ≡ g a) → Marked n f was is → Marked n g was is
-marked_like n f g was is e m = record { width = m.width; each = λ a l. m.each a l ∙ ap (λ b. get_or was a false || b) (e a l) }

@@ -13,7 +13,7 @@ pub fn closure<const N: usize, S: Step<N>>(step: &S, start: &Row<N>) -> Row<N>
     loop {
         let mut next = set;
         step.mark(&set, &mut next);
-        if next.same(&set) {
+        if next == set {
             return set;
         }
         set = next;

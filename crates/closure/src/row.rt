@@ -1,9 +1,10 @@
 // A set of atoms below N, as a row of N marks.
 ghost use Rattle.std.specs.Prelude.{◌≡◌, ℕ, ◌<◌, true, false, length, get_or, set, replicate, if◌then◌else◌, Decides, slice_index_or, slice_set};
+ghost use Rattle.game.specs.Rules.{among};
 ghost use Rattle.game.specs.Sets.{union as united};
 ghost use Rattle.closure.specs.Rows.{marked, minus as less};
 
-#[derive(Clone, Copy)]
+#[derive(Clone, Copy, PartialEq, Eq)]
 pub struct Row<const N: usize> {
     marks: [bool; N],
     ghost wide: { length marks ≡ N },
@@ -15,6 +16,17 @@ impl<const N: usize> Row<N> {
         ensures { result.marks ≡ replicate N false }
     {
         Row { marks: [false; N] }
+    }
+
+    // The set of the atoms on the list; those past the row's end are left out.
+    pub fn of(atoms: &[u16]) -> Row<N>
+        ensures { (k : ℕ) → k < N → slice_index_or result.marks k false ≡ among k atoms.now }
+    {
+        let mut row = Row::clear();
+        for atom in atoms {
+            row.put(*atom);
+        }
+        row
     }
 
     // The row with this mark at the place of an atom; past the row's end nothing changes.
@@ -46,7 +58,7 @@ impl<const N: usize> Row<N> {
     pub fn at(&self, i: usize) -> bool
         ensures { result ≡ slice_index_or self.now.marks i false }
     {
-        if i < N { self.marks[i] } else { false }
+        self.marks.get(i).copied().unwrap_or(false)
     }
 
     // Is the atom in the set? No atom past the row's end is.
@@ -70,13 +82,7 @@ impl<const N: usize> Row<N> {
     pub fn count(&self) -> usize
         ensures { result ≡ marked self.now.marks }
     {
-        let mut n = 0;
-        for i in 0..N {
-            if self.marks[i] {
-                n += 1;
-            }
-        }
-        n
+        self.marks.iter().filter(|mark| **mark).count()
     }
 
     // The row with the given mark wherever the other row has one.
@@ -84,8 +90,8 @@ impl<const N: usize> Row<N> {
         ensures { (k : ℕ) → k < N → slice_index_or result.marks k false ≡ (if get_or other.now.marks k false then mark else slice_index_or self.now.marks k false) }
     {
         let mut marks = self.marks;
-        for i in 0..N {
-            if other.marks[i] {
+        for (i, laid) in other.marks.iter().enumerate() {
+            if *laid {
                 marks[i] = mark;
             }
         }
@@ -103,18 +109,5 @@ impl<const N: usize> Row<N> {
         ensures { result.marks ≡ less self.now.marks other.now.marks }
     {
         self.laid(other, false)
-    }
-
-    // Have the two sets the same atoms? The loop has no early way out, so that it runs on many marks at once.
-    pub fn same(&self, other: &Row<N>) -> bool
-        ensures { Decides result (self.now.marks ≡ other.now.marks) }
-    {
-        let mut alike = true;
-        for i in 0..N {
-            if self.marks[i] != other.marks[i] {
-                alike = false;
-            }
-        }
-        alike
     }
 }

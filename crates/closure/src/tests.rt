@@ -39,8 +39,8 @@ fn wide(rt: HostRuntime) {
     row.put(95);
     let mut other = Row::<96>::clear();
     other.put(95);
-    assert!(rt; row.union(&other).same(&row));
-    assert!(rt; !row.same(&other));
+    assert!(rt; row.union(&other) == row);
+    assert!(rt; row != other);
     let rest = row.minus(&other);
     assert!(rt; rest.has(0));
     assert_eq!(rt; rest.count(), 1);

@@ -1,2 +1,3 @@
 pub mod Scans
 pub mod Fitting
+pub mod Tests

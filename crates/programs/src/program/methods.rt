@@ -12,24 +12,14 @@ use crate::rule::Rule;
 fn all_fit(rules: &[Rule], limit: usize) -> bool
     ensures { result ≡ all_fit limit (models rules.now) }
 {
-    for rule in rules {
-        if !rule.fits(limit) {
-            return false;
-        }
-    }
-    true
+    rules.iter().all(|rule| rule.fits(limit))
 }
 
 // Does the atom stand in some rule?
 fn some_mentions(rules: &[Rule], atom: u16) -> bool
     ensures { result ≡ stands atom (models rules.now) }
 {
-    for rule in rules {
-        if rule.mentions(atom) {
-            return true;
-        }
-    }
-    false
+    rules.iter().any(|rule| rule.mentions(atom))
 }
 
 impl<const N: usize> Program<N> {

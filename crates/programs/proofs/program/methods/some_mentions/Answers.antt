@@ -1,18 +1,12 @@
-use Rattle.std.proofs.Common.{true, ◌||◌, sym, ap, ◌∙◌}
-use Rattle.game.specs.Rules.{stands, in_rule}
-use Rattle.programs.specs.Model.{model, models}
-use Rattle.programs.proofs.Scans.{stops, goes, ends}
+use Rattle.std.proofs.Common.{rules, sym, ◌∙◌}
+use Rattle.std.proofs.lemmas.Iterator.{YieldsList-from_slice}
+use Rattle.std.proofs.lemmas.Iterator.Search.{any_from_yields_List}
+use Rattle.game.specs.Rules.{in_rule}
+use Rattle.programs.specs.Model.{model}
+use Rattle.programs.proofs.Tests.{stands_any}
 use Rattle.programs.proofs.program.methods.some_mentions.Goals as goal
 
-pub returns-then-mentions : goal.returns-then-mentions
-returns-then-mentions c =
-    stops (λ rs. stands c.args.atom (models rs)) _ _ c.loop-rule.invariant _ true c.loop-rule-test.true
-    (λ rest. ap (λ b. b || stands c.args.atom (models rest)) (ap (λ r. in_rule c.args.atom (model r)) (sym c.rule-item.is) ∙ sym c.if-mentions.ensures))
-
-pub loop-rule-preserved : goal.loop-rule-preserved
-loop-rule-preserved c =
-    goes (λ rs. stands c.args.atom (models rs)) _ _ c.loop-rule.invariant _ c.loop-rule-test.true
-    (λ rest. ap (λ b. b || stands c.args.atom (models rest)) (ap (λ r. in_rule c.args.atom (model r)) (sym c.rule-item.is) ∙ sym c.if-mentions.ensures))
-
 pub returns : goal.returns
-returns c = ends (λ rs. stands c.args.atom (models rs)) _ _ c.loop-rule.invariant c.loop-rule-test.false
+returns c =
+    any_from_yields_List (λ r. in_rule c.args.atom (model r)) _ _ c.any.result c.any.ensures.ran (YieldsList-from_slice c.args.rules.now cc) (λ x b q k. search rules)
+    ∙ sym (stands_any c.args.atom c.args.rules.now)
