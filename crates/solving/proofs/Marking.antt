@@ -1,30 +1,23 @@
 -- One turn of the loop that marks the heads of picked rules.
-use Rattle.std.proofs.Common.{◌≡◌, ℕ, ◌+◌, ◌<◌, ◌≤◌, Bool, true, false, ◌&&◌, ◌||◌, eqb, List, [], ◌∷◌, length, get_or, drop, set, replicate, sym, refl, ap, ◌∙◌, ⊎_elim, arith}
+use Rattle.std.proofs.Common.{◌≡◌, ℕ, ◌+◌, ◌<◌, ◌≤◌, Bool, true, false, ◌&&◌, ◌||◌, eqb, List, [], ◌∷◌, length, get_or, drop, set, replicate, sym, refl, ap, ◌∙◌, subst, ⊎_elim, arith}
 use Rattle.std.proofs.lemmas.List.{at_drop_more, at_drop_all, get_or-set_same, get_or-set_other, get_or-replicate, get_or_past, length-replicate}
 use Rattle.std.proofs.lemmas.Bool.{cases_eq, cases_lt, eq-eqb, ne_eqb}
 use Rattle.game.specs.Sets.{Row}
 use Rattle.game.specs.Rules.{Head, Rule, heads, is_head, none, atom}
-use Rattle.game.specs.Derives.{fires, derives, derives_at}
+use Rattle.game.specs.Derives.{fires, derives, derives_at, SmallestClosed}
 use Rattle.solving.specs.Levels.{level_in, head_at}
-use Rattle.closure.specs.Steps.{Marked}
+use Rattle.std.proofs.Math.Bool.{or-true, or-false, and-true, and-false, and-or_distrib_left}
+use Rattle.std.proofs.Math.Path.{fun_ext}
 use Rattle.programs.specs.declared.rule.Rule as code
 use Rattle.programs.specs.Model.{model, models}
 use Rattle.solving.specs.Tests.{headed_by}
-
-or_true : (x : Bool) → (x || true) ≡ true
-or_true true = refl
-or_true false = refl
-
-or_false : (x : Bool) → (x || false) ≡ x
-or_false true = refl
-or_false false = refl
 
 -- one mark more
 pub marked_more : (s : Row) (h a : ℕ) → a < length s → get_or (set s h true) a false ≡ (get_or s a false || eqb a h)
 marked_more s h a less =
     ⊎_elim
-    (λ same. ap (λ b. get_or (set s b true) a false) (sym same) ∙ get_or-set_same s a true false less ∙ sym (ap (λ b. get_or s a false || b) (eq-eqb a h same) ∙ or_true (get_or s a false)))
-    (λ other. get_or-set_other s h a true false other ∙ sym (ap (λ b. get_or s a false || b) (ne_eqb a h other) ∙ or_false (get_or s a false)))
+    (λ same. ap (λ b. get_or (set s b true) a false) (sym same) ∙ get_or-set_same s a true false less ∙ sym (ap (λ b. get_or s a false || b) (eq-eqb a h same) ∙ or-true (get_or s a false)))
+    (λ other. get_or-set_other s h a true false other ∙ sym (ap (λ b. get_or s a false || b) (ne_eqb a h other) ∙ or-false (get_or s a false)))
     (cases_eq a h)
 
 shift : (x y z : Bool) → ((x || y) || z) ≡ (x || ((y && true) || z))
@@ -55,48 +48,36 @@ module _ (p : Rule → Bool) (rs : List code.Rule) (i : ℕ) (r : code.Rule) (in
     headless e = ap (λ t. b || t) (sym (left ∙ ap (λ q. (heads a q && p (model r)) || headed_by p (models (drop (i + 1) rs)) a) e))
 
 pub none_left : (p : Rule → Bool) (rs : List code.Rule) (i a : ℕ) (b : Bool) → length rs ≤ i → b ≡ (b || headed_by p (models (drop i rs)) a)
-none_left p rs i a b h = sym (ap (λ t. b || t) (at_drop_all (λ l. headed_by p (models l) a) rs i h) ∙ or_false b)
+none_left p rs i a b h = sym (ap (λ t. b || t) (at_drop_all (λ l. headed_by p (models l) a) rs i h) ∙ or-false b)
 
--- what a step promises, where it marks the heads of the rules that it picks
-pub as_marked : (n : ℕ) (p : Rule → Bool) (rules : List Rule) (f : ℕ → Bool) (was is : Row) → ((a : ℕ) → headed_by p rules a ≡ f a) → length is ≡ n → ((a : ℕ) → a < n → get_or is a false ≡ (get_or was a false || headed_by p rules a)) → Marked n f was is
-as_marked n p rules f was is same wide each = record { width = wide; each = λ a less. each a less ∙ ap (λ b. get_or was a false || b) (same a) }
+-- what is the smallest set for one test is so for a test that tells the same
+pub smallest_as : {n : ℕ} {f g : Row → ℕ → Bool} {start s : Row} → ((t : Row) (a : ℕ) → f t a ≡ g t a) → SmallestClosed n f start s → SmallestClosed n g start s
+smallest_as {n} {start = start} {s = s} same = subst (λ h. SmallestClosed n h start s) (fun_ext (λ t. fun_ext (same t)))
 
 pub picked_derives : (rules : List Rule) (x s : Row) (a : ℕ) → headed_by (fires x s) rules a ≡ derives rules x s a
 picked_derives [] x s a = refl
 picked_derives (r ∷ rs) x s a = ap (λ b. (heads a r.head && fires x s r) || b) (picked_derives rs x s a)
 
-and_true : (x : Bool) → (x && true) ≡ x
-and_true true = refl
-and_true false = refl
-
-and_false : (x : Bool) → (x && false) ≡ false
-and_false true = refl
-and_false false = refl
-
 and_swap : (x y z : Bool) → (x && (y && z)) ≡ (y && (x && z))
 and_swap true y z = refl
-and_swap false y z = sym (and_false y)
-
-and_or : (x y z : Bool) → ((x && y) || (x && z)) ≡ (x && (y || z))
-and_or true y z = refl
-and_or false y z = refl
+and_swap false y z = sym (and-false y)
 
 pub picked_heads : (rules : List Rule) (a : ℕ) → headed_by (λ _. true) rules a ≡ is_head rules a
 picked_heads [] a = refl
-picked_heads (r ∷ rs) a = ap (λ b. b || headed_by (λ _. true) rs a) (and_true (heads a r.head)) ∙ ap (λ b. heads a r.head || b) (picked_heads rs a)
+picked_heads (r ∷ rs) a = ap (λ b. b || headed_by (λ _. true) rs a) (and-true (heads a r.head)) ∙ ap (λ b. heads a r.head || b) (picked_heads rs a)
 
 pub clear_mark : (n a : ℕ) → get_or (replicate n false) a false ≡ false
 clear_mark n a = ⊎_elim (λ less. get_or-replicate n a false false less) (λ past. get_or_past (replicate n false) a false (omega (arith, length-replicate n false))) (cases_lt a n)
 
 -- a head of one level that a rule picked by it fires
 level_shift : (levels : List ℕ) (l a : ℕ) (h : Head) (f : Bool) → (heads a h && (head_at levels l h && f)) ≡ (eqb (level_in levels a) l && (heads a h && f))
-level_shift levels l a none f = sym (and_false (eqb (level_in levels a) l))
+level_shift levels l a none f = sym (and-false (eqb (level_in levels a) l))
 level_shift levels l a (atom b) f =
     ⊎_elim (λ same. ap (λ c. eqb a b && (eqb (level_in levels c) l && f)) (sym same) ∙ and_swap (eqb a b) (eqb (level_in levels a) l) f)
-    (λ other. ap (λ t. t && (eqb (level_in levels b) l && f)) (ne_eqb a b other) ∙ sym (ap (λ t. eqb (level_in levels a) l && (t && f)) (ne_eqb a b other) ∙ and_false (eqb (level_in levels a) l))) (cases_eq a b)
+    (λ other. ap (λ t. t && (eqb (level_in levels b) l && f)) (ne_eqb a b other) ∙ sym (ap (λ t. eqb (level_in levels a) l && (t && f)) (ne_eqb a b other) ∙ and-false (eqb (level_in levels a) l))) (cases_eq a b)
 
 pub picked_level : (rules : List Rule) (levels : List ℕ) (l : ℕ) (x s : Row) (a : ℕ) → headed_by (λ r. head_at levels l r.head && fires x s r) rules a ≡ derives_at rules (level_in levels) l x s a
-picked_level [] levels l x s a = sym (and_false (eqb (level_in levels a) l))
+picked_level [] levels l x s a = sym (and-false (eqb (level_in levels a) l))
 picked_level (r ∷ rs) levels l x s a =
     ap (λ b. b || headed_by (λ r. head_at levels l r.head && fires x s r) rs a) (level_shift levels l a r.head (fires x s r))
-    ∙ ap (λ b. (eqb (level_in levels a) l && (heads a r.head && fires x s r)) || b) (picked_level rs levels l x s a) ∙ and_or (eqb (level_in levels a) l) (heads a r.head && fires x s r) (derives rs x s a)
+    ∙ ap (λ b. (eqb (level_in levels a) l && (heads a r.head && fires x s r)) || b) (picked_level rs levels l x s a) ∙ sym (and-or_distrib_left (eqb (level_in levels a) l) (heads a r.head && fires x s r) (derives rs x s a))

@@ -55,6 +55,9 @@ pub record Trial (n : ℕ) (rules : List Rule) (given row hs : Row) : Type 0 whe
   pub hs_wide : length hs ≡ n
   pub is : (a : ℕ) → a < n → get_or hs a false ≡ is_head rules a
 
+pub tried : {n : ℕ} (rules : List Rule) {given row hs : Row} → fits n rules ≡ true → length given ≡ n → length row ≡ n → length hs ≡ n → ((a : ℕ) → a < n → get_or hs a false ≡ is_head rules a) → Trial n rules given row hs
+tried {n} rules kept given_wide row_wide hs_wide is = record { below = program_heads n rules kept; given_wide = given_wide; row_wide = row_wide; hs_wide = hs_wide; is = is }
+
 module _ {n : ℕ} {rules : List Rule} {given row hs : Row} (t : Trial n rules given row hs) where
   -- only heads are marked
   pub only_heads : AnswerSet rules given row → union row hs ≡ hs

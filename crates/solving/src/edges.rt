@@ -1,46 +1,41 @@
-// The dependency edges as a growing step: from each body atom, plain or negated, to its rule's head.
-ghost use Rattle.std.specs.Prelude.{◌≡◌, ◌<◌, false, replicate};
-ghost use Rattle.closure.specs.Steps.{Grows};
-ghost use Rattle.game.proofs.Deriving.{HeadsBelow};
-ghost use Rattle.programs.specs.Model.{models};
-ghost use Rattle.solving.specs.Following.{edges_follows, edges_grows};
+// The dependency edges: from each body atom, plain or negated, to its rule's head.
+ghost use Rattle.std.specs.Prelude.{◌<◌};
+ghost use Rattle.programs.specs.Programs.{rules_of};
+ghost use Rattle.solving.specs.Following.{PicksMore, touches_grows};
 ghost use Rattle.solving.specs.Reached.{Reached};
 ghost use Rattle.solving.specs.Tests.{touches};
 
 use crate::literals::some_in;
-use crate::picking::{Picks, mark_heads};
+use crate::picking::{Picked, Picks};
 use closure::closing::closure;
 use closure::row::Row;
-use closure::step::Step;
+use programs::program::Program;
 use programs::rule::Rule;
 
+// The rules of which some body atom is in the set.
 #[derive(Clone, Copy)]
-pub(crate) struct Edges<'a> {
-    pub(crate) rules: &'a [Rule],
-}
+struct Edges;
 
-impl<'a, const N: usize> Picks<N> for Edges<'a> {
+impl<const N: usize> Picks<N> for Edges {
     ghost chosen = { λ _ from r. touches from r };
+
+    ghost picks_more = { record { grows = λ _ s t within r. touches_grows s t within r } };
 
     fn picks(&self, rule: &Rule, from: &Row<N>) -> bool {
         some_in(from, rule.plain.as_slice()) || some_in(from, rule.negated.as_slice())
     }
 }
 
-impl<'a, const N: usize> Step<N> for Edges<'a> {
-    ghost follows = { edges_follows };
-
-    ghost laws = { edges_grows };
-
-    fn mark(&self, from: &Row<N>, out: &mut Row<N>) {
-        mark_heads(self, self.rules, from, out);
-    }
-}
-
-// The atoms that can be reached from the atom in zero or more edges; `none` is the empty set.
-pub(crate) fn reach<const N: usize>(rules: &[Rule], none: &Row<N>, atom: usize) -> Row<N>
-    requires { (HeadsBelow (models rules.now) N) × ((atom < N) × (none.now.marks ≡ replicate N false)) }
-    ensures { Reached (models rules.now) atom result.marks }
+// The atoms that can be reached from the atom in zero or more edges.
+pub(crate) fn reach<const N: usize>(program: &Program<N>, atom: usize) -> Row<N>
+    requires { atom < N }
+    ensures { Reached (rules_of program.now) atom result.marks }
 {
-    closure(&Edges { rules }, &none.with(atom))
+    closure(
+        &Picked {
+            program,
+            picker: Edges,
+        },
+        &Row::clear().with(atom),
+    )
 }

@@ -1,10 +1,10 @@
 // Decides answer sets: the reduct and the dependency edges as growing steps, the test, strata, levels and judgement.
 #![tactic(auto)]
 
-pub mod answer;
 pub mod bounds;
 mod constraints;
 mod edges;
+pub mod job;
 pub mod levels;
 mod literals;
 mod picking;

@@ -2,50 +2,48 @@
 ghost use Rattle.std.specs.Prelude.{ℕ};
 ghost use Rattle.game.specs.Derives.{Settles, SmallestClosed, derives_at};
 ghost use Rattle.game.specs.Sets.{In};
-ghost use Rattle.programs.specs.Model.{models};
 ghost use Rattle.programs.specs.Programs.{rules_of};
 ghost use Rattle.solving.specs.Judged.{Judged, OneAnswer};
 ghost use Rattle.solving.specs.Levels.{level_in};
 
 use super::Stratified;
 use crate::constraints::violates;
+use crate::picking::Picked;
 use crate::settling::AtLevel;
 use closure::closing::closure;
 use closure::row::Row;
-use programs::rule::Rule;
 
-// The set with all that follows for heads of this level, where the levels below it are settled.
-fn settle_level<'x>(rules: &'x [Rule], levels: &'x [usize], level: usize, set: &Row<96>) -> Row<96>
-    ensures { SmallestClosed 96 (derives_at (models rules.now) (level_in levels.now) level set.now.marks) set.now.marks result.marks }
-{
-    let before = *set;
-    closure(
-        &AtLevel {
-            rules,
-            levels,
-            level,
-            against: &before,
-        },
-        set,
-    )
-}
-
-impl Stratified<96> {
-    // The given atoms and all that follows from them, one level after another.
-    fn settle(&self, given: &Row<96>) -> Row<96>
-        ensures { Settles 96 (rules_of self.now.program) (level_in self.now.levels.of) 0 96 given.now.marks result.marks }
+impl<const N: usize> Stratified<N> {
+    // The set with all that follows for heads of this level, where the levels below it are settled.
+    fn settle_level<'x>(&'x self, level: usize, set: &'x Row<N>) -> Row<N>
+        ensures { SmallestClosed N (derives_at (rules_of self.now.program) (level_in self.now.levels.of) level set.now.marks) set.now.marks result.marks }
     {
-        let rules = self.program.rules();
-        let levels = self.levels.as_slice();
+        closure(
+            &Picked {
+                program: &self.program,
+                picker: AtLevel {
+                    levels: &self.levels,
+                    level,
+                    against: set,
+                },
+            },
+            set,
+        )
+    }
+
+    // The given atoms and all that follows from them, one level after another.
+    fn settle(&self, given: &Row<N>) -> Row<N>
+        ensures { Settles N (rules_of self.now.program) (level_in self.now.levels.of) 0 N given.now.marks result.marks }
+    {
         let mut set = *given;
-        for level in 0..96 {
-            set = settle_level(rules, levels, level, &set);
+        for level in 0..N {
+            set = self.settle_level(level, &set);
         }
         set
     }
 
     // Has the program an answer set with these atoms given?
-    pub fn holds(&self, given: &Row<96>) -> bool
+    pub fn holds(&self, given: &Row<N>) -> bool
         ensures { Judged (rules_of self.now.program) given.now.marks result }
     {
         let set = self.settle(given);
@@ -53,7 +51,7 @@ impl Stratified<96> {
     }
 
     // The answer set of the headed rules with these atoms given: the only one, where no given atom is a head. It holds no given atom.
-    pub fn answer(&self, given: &Row<96>) -> Row<96>
+    pub fn answer(&self, given: &Row<N>) -> Row<N>
         ensures one { OneAnswer (rules_of self.now.program) given.now.marks result.marks }
         ensures new { (a : ℕ) → In a result.marks → ¬ In a given.now.marks }
     {

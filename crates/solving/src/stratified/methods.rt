@@ -6,7 +6,6 @@ ghost use Rattle.programs.specs.Programs.{rules_of};
 use super::Stratified;
 use crate::levels::rank;
 use crate::strata::first_break;
-use closure::row::Row;
 use programs::program::Program;
 
 impl<const N: usize> Stratified<N> {
@@ -14,11 +13,10 @@ impl<const N: usize> Stratified<N> {
     pub fn new(program: Program<N>) -> Result<Stratified<N>, usize>
         ensures { MatchResult result (λ s. (rules_of s.program ≡ rules_of program.entry) × IsStratified (rules_of program.entry)) (FirstBreak (rules_of program.entry)) }
     {
-        let none = Row::clear();
-        if let Some(i) = first_break(&program, &none) {
+        if let Some(i) = first_break(&program) {
             return Err(i);
         }
-        let levels = rank(program.rules(), &none);
+        let levels = rank(&program);
         Ok(Stratified { program, levels })
     }
 
