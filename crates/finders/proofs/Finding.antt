@@ -4,7 +4,6 @@ use Rattle.std.proofs.lemmas.List.{length-replicate, get_or-replicate, get_or_pa
 use Rattle.game.specs.Sets.{Row}
 use Rattle.game.specs.Rules.{Rule}
 use Rattle.game.specs.AnswerSets.{AnswerSet}
-use Rattle.game.proofs.Rows.{in_none}
 use Rattle.closure.specs.declared.row.Row as code
 use Rattle.finders.specs.declared.finder.Refusal.TheVariants.{Unlisted}
 use Rattle.finders.specs.Meanings.{From, start, after}
@@ -22,9 +21,6 @@ clear_up n z wide =
     clear_below n (replicate n false) z (length-replicate n false ∙ sym wide)
     (λ k less. get_or-replicate n k false false less)
     (λ k from. let long = length-replicate n false in get_or_past (replicate n false) k false (omega arith) ∙ sym (get_or_past z k false (omega arith)))
-
-pub clear_set_of : (n : ℕ) (hs s : Row) → length hs ≡ n → s ≡ replicate n false → SetOf hs s
-clear_set_of n hs s wide e = subst (SetOf hs) (sym e) (record { width = length-replicate n false ∙ sym wide; within = λ a h. absurd (in_none n a h) })
 
 same_or : (y z : Row) → UpFrom y z → (z ≡ y) ⊎ Lower y z
 same_or y z up = ⊎_elim (λ e. inl (sym e)) inr up

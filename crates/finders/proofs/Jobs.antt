@@ -1,14 +1,15 @@
 -- What the code finds of a job's heads.
-use Rattle.std.proofs.Common.{◌≡◌, ℕ, zero, suc, ◌<◌, ◌≤◌, Bool, true, false, List, [], ◌∷◌, length, get_or, sym, refl, ap, ◌∙◌, subst, arith}
+use Rattle.std.proofs.Common.{◌≡◌, ℕ, zero, suc, ◌<◌, ◌≤◌, Bool, true, false, ◌≢◌, List, [], ◌∷◌, length, get_or, sym, refl, ap, ◌∙◌, subst, arith}
 use Rattle.std.proofs.lemmas.List.{ext_get_or}
 use Rattle.game.specs.Sets.{Row, In}
 use Rattle.game.specs.Rules.{Rule, is_head}
 use Rattle.game.proofs.Rows.{row, length-row, in_width}
 use Rattle.closure.specs.Rows.{marked, minus}
-use Rattle.closure.proofs.Marks.{in_minus}
+use Rattle.closure.proofs.Marks.{in_minus, marked_length}
 use Rattle.programs.specs.Limits.{fits}
 use Rattle.finders.specs.declared.finder.Refusal.TheVariants.{ManyHeads, GivenHead}
 use Rattle.finders.specs.Meanings.{heads_below}
+use Rattle.finders.specs.Upward.{HeadsAre}
 use Rattle.finders.specs.Jobs.{HeadsTaken, Refused, many_heads, given_head}
 
 pub get_or-row : (n : ℕ) (f : ℕ → Bool) (a : ℕ) → a < n → get_or (row n f) a false ≡ f a
@@ -62,3 +63,14 @@ module _ {n : ℕ} {rules : List Rule} {given hs : Row} (s : Seen n rules given 
     };
     are = heads_are;
   }
+
+-- a finder that takes as many heads as there are atoms takes every job of which no given atom is a head
+pub all_taken :
+    (n : ℕ) (rules : List Rule) (given hs : Row) → fits n rules ≡ true → length given ≡ n → HeadsAre n rules hs
+    → ((a : ℕ) → In a given → is_head rules a ≢ true) → HeadsTaken n n rules given hs
+all_taken n rules given hs kept wide are apart =
+    let few : heads_below n rules ≤ length (row n (is_head rules)) = marked_length (row n (is_head rules)) in
+    record {
+      taken = record { kept = kept; width = wide; few = omega (arith, few, length-row n (is_head rules)); apart = apart };
+      are = are;
+    }

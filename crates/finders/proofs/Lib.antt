@@ -1,8 +1,10 @@
 pub mod Sorted
 pub mod Lexical
 pub mod Jobs
+pub mod Takings
 pub mod Closer
 pub mod Maybe
+pub mod Least
 pub mod Splitting
 pub mod Turning
 pub mod Answering

@@ -1,5 +1,5 @@
 -- One more: the next set of heads, as a binary number.
-use Rattle.std.proofs.Common.{◌≡◌, ℕ, ◌+◌, ◌<◌, ◌≤◌, true, false, ◌≢◌, length, get_or, set, sym, refl, ◌∙◌, subst, inr, ⊎_elim, arith, below_more}
+use Rattle.std.proofs.Common.{◌≡◌, ℕ, ◌<◌, ◌≤◌, true, false, ◌≢◌, length, get_or, set, sym, ◌∙◌, subst, inr, ⊎_elim, arith}
 use Rattle.std.proofs.lemmas.List.{length-set, get_or-set_same, get_or-set_other}
 use Rattle.std.proofs.lemmas.Bool.{cases_Bool, cases_order, both_ways}
 use Rattle.game.specs.Sets.{Row, In}
@@ -19,16 +19,6 @@ pub record Cleared (hs s row : Row) (p : ℕ) : Type 0 where
 module _ (hs s : Row) (of : SetOf hs s) where
   free_is : (k : ℕ) → In k hs → get_or s k false ≡ false → In k (minus hs s)
   free_is k head out = minus_in hs s k head (both_ways (get_or s k false) out)
-
-  pub cleared_start : Cleared hs s s 0
-  cleared_start = record { taken = λ k less. absurd (omega arith); clear = λ k less. absurd (omega arith); same = λ k _. refl }
-
-  pub cleared_more : (row : Row) (p : ℕ) → length row ≡ length hs → p < length hs → Cleared hs s row p → get_or (minus hs s) p false ≡ false → Cleared hs s (set row p false) (p + 1)
-  cleared_more row p wide inside c none = record {
-    taken = below_more (λ k. get_or (minus hs s) k false ≡ false) p c.taken none;
-    clear = below_more (λ k. get_or (set row p false) k false ≡ false) p (λ k less. get_or-set_other row p k false false (omega arith) ∙ c.clear k less) (get_or-set_same row p false false (omega arith));
-    same = λ k from. get_or-set_other row p k false false (omega arith) ∙ c.same k (omega arith);
-  }
 
   -- no free head is left
   pub last_from : (row : Row) (p : ℕ) → length hs ≤ p → Cleared hs s row p → Last hs s

@@ -1,11 +1,11 @@
 -- The search upward, from one set of heads to the next, for the first answer set.
-use Rattle.std.proofs.Common.{◌≡◌, ℕ, ◌-◌, ◌^◌, ◌<◌, List, length, sym, refl, ap, ◌∙◌, subst, inl, inr, ⊎_elim, arith}
+use Rattle.std.proofs.Common.{◌≡◌, ℕ, ◌-◌, ◌^◌, ◌<◌, List, length, sym, ap, ◌∙◌, subst, inr, ⊎_elim, arith}
 use Rattle.game.specs.Sets.{Row, In}
 use Rattle.game.specs.Rules.{Rule, is_head}
 use Rattle.game.specs.AnswerSets.{AnswerSet}
 use Rattle.game.proofs.Rows.{length-row, in_row, in_width}
 use Rattle.finders.specs.Orders.{Lower}
-use Rattle.finders.specs.Upward.{HeadsAre, SetOf, UpFrom, Next, Last, First, NoneFrom}
+use Rattle.finders.specs.Upward.{HeadsAre, SetOf, UpFrom, Next, Last, NoneFrom}
 use Rattle.finders.proofs.Binary.{lower_trans, value, value_below, value_lower}
 
 pub up_lower : (s t u : Row) → UpFrom s t → Lower t u → Lower s u
@@ -36,13 +36,7 @@ pub record Upward (rules : List Rule) (given hs start set : Row) : Type 0 where
   pub up : UpFrom start set
   pub rest : (z : Row) → AnswerSet rules given z → UpFrom start z → UpFrom set z
 
-pub upward_start : (rules : List Rule) (given hs start : Row) → SetOf hs start → Upward rules given hs start start
-upward_start rules given hs start of = record { of = of; up = inl refl; rest = λ z answer up. up }
-
 module _ {rules : List Rule} {given hs start set : Row} (u : Upward rules given hs start set) where
-  pub first_here : AnswerSet rules given set → First rules given start set
-  first_here answer = record { answer = answer; from = u.up; least = u.rest }
-
   -- the set is no answer set, so those from it on come after it
   module _ (sets : (z : Row) → AnswerSet rules given z → SetOf hs z) (not_set : AnswerSet rules given set → ⊥) where
     beyond : (z : Row) → AnswerSet rules given z → UpFrom start z → Lower set z

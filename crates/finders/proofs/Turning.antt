@@ -1,7 +1,7 @@
 -- The sets after an entry, by the lowest place where they differ from it.
-use Rattle.std.proofs.Common.{◌≡◌, ℕ, suc, ◌+◌, ◌<◌, ◌≤◌, true, false, ◌||◌, eqb, ltb, ◌⊎◌, List, length, get_or, set, sym, ◌∙◌, subst, ap₂, inl, inr, ⊎_elim, arith}
+use Rattle.std.proofs.Common.{◌≡◌, ℕ, suc, ◌<◌, ◌≤◌, true, false, ltb, ◌⊎◌, List, length, get_or, set, sym, ◌∙◌, subst, inl, inr, ⊎_elim, arith}
 use Rattle.std.proofs.lemmas.List.{get_or-set_same, get_or-set_other}
-use Rattle.std.proofs.lemmas.Bool.{cases_Bool, cases_eq, cases_lt, both_ways, ltb-true, lt-ltb, le-ltb, or_left, or_right, eq-eqb, ne_eqb}
+use Rattle.std.proofs.lemmas.Bool.{cases_Bool, cases_eq, cases_lt, both_ways, ltb-true, lt-ltb}
 use Rattle.std.proofs.lemmas.Bool.Decides.{same_from_decides}
 use Rattle.game.specs.Sets.{Row, In, union}
 use Rattle.game.specs.Rules.{Rule, is_head}
@@ -17,12 +17,6 @@ use Rattle.finders.proofs.Closer.{in_both}
 -- s and t agree below k, and t has k where s lacks it
 abbrev pub Turns : Row → Row → ℕ → Type 0
 Turns s t k = ((j : ℕ) → j < k → get_or s j false ≡ get_or t j false) × (get_or s k false ≡ false) × In k t
-
-pub one_place_more : (j i : ℕ) → (ltb j i || eqb i j) ≡ ltb j (i + 1)
-one_place_more j i =
-    ⊎_elim (λ less. or_left (ltb j i) (eqb i j) (lt-ltb j i less) ∙ sym (lt-ltb j (i + 1) (omega arith)))
-    (λ ge. ⊎_elim (λ same. or_right (ltb j i) (eqb i j) (eq-eqb i j same) ∙ sym (lt-ltb j (i + 1) (omega arith))) (λ differ. ap₂ ◌||◌ (le-ltb j i ge) (ne_eqb i j differ) ∙ sym (le-ltb j (i + 1) (omega (arith, differ)))) (cases_eq i j))
-    (cases_lt j i)
 
 -- ## The bounds as the code makes them: p has the places below a, k what the entry has there
 
@@ -73,9 +67,6 @@ module _ (n most : ℕ) (rules : List Rule) (given heads entry : Row) (known : H
   -- a member of an answer set that is with the given atoms in another is in the other
   own : (x : Row) (j : ℕ) → is_head rules j ≡ true → In j (union x given) → In j x
   own x j head h = ⊎_elim (λ inside. inside) (λ is-given. absurd (known.taken.apart j is-given head)) (in_union x given j h)
-
-  pub none_past : NoneFrom rules given entry n
-  none_past z answer j ge (agree, out, inside) = let less = in_width z (answer.width ∙ known.taken.width) j inside in omega arith
 
   none_more : (a : ℕ) → NoneFrom rules given entry (suc a) → ((z : Row) → AnswerSet rules given z → Turns entry z a → ⊥) → NoneFrom rules given entry a
   none_more a none here z answer j ge turns = ⊎_elim (λ same. here z answer (subst (Turns entry z) same turns)) (λ differ. none z answer j (omega (arith, differ)) turns) (cases_eq j a)

@@ -1,5 +1,5 @@
 // The finder that branches: it settles the heads one after another, absent before present, lowest number first.
-ghost use Rattle.std.specs.Prelude.{◌≡◌, ℕ, ◌<◌, true, false, MatchOption, MatchResult, ◌≢◌, nat_lt, slice_index_or};
+ghost use Rattle.std.specs.Prelude.{◌≡◌, refl, ℕ, ◌<◌, true, false, MatchOption, MatchResult, ◌≢◌, nat_lt, slice_index_or};
 ghost use Rattle.closure.specs.Rows.{minus};
 ghost use Rattle.game.specs.AnswerSets.{AnswerSet};
 ghost use Rattle.game.specs.Rules.{is_head};
@@ -12,64 +12,57 @@ ghost use Rattle.finders.specs.Jobs.{HeadsTaken};
 ghost use Rattle.finders.specs.Orders.{branching_order};
 ghost use Rattle.finders.specs.Supplied.{branching};
 
-use crate::bounding::{Bounds, narrowed};
+use crate::bounding::Bounds;
 use crate::finder::{Finder, Found, Refusal};
-use crate::questions::heads_taken;
+use crate::taken::{Taken, heads_taken};
 use crate::writing::written;
 use closure::row::Row;
 use programs::program::Program;
-use solving::answer::is_answer_set;
+use solving::job::Job;
 
 // The lowest atom of the set.
 fn lowest(set: &Row<96>) -> Option<u16>
     ensures { MatchOption result ((a : ℕ) → In a set.now.marks → ⊥) (Lowest set.now.marks) }
 {
-    for atom in 0..96 {
-        if set.has(atom) {
-            return Some(atom);
-        }
-    }
-    None
+    (0..96).find(|atom| set.has(*atom))
 }
 
 // The set without the given atoms, where that is an answer set.
-fn only(program: &Program<96>, given: &Row<96>, all: &Row<96>) -> Option<Row<96>>
-    ensures { MatchOption result (AnswerSet (rules_of program.now) given.now.marks (minus all.now.marks given.now.marks) → ⊥) (λ x. (x.marks ≡ minus all.now.marks given.now.marks) × AnswerSet (rules_of program.now) given.now.marks x.marks) }
+fn only(job: Job<'_, 96>, all: &Row<96>) -> Option<Row<96>>
+    ensures { MatchOption result (AnswerSet (rules_of job.entry.program.now) job.entry.given.now.marks (minus all.now.marks job.entry.given.now.marks) → ⊥) (λ x. (x.marks ≡ minus all.now.marks job.entry.given.now.marks) × AnswerSet (rules_of job.entry.program.now) job.entry.given.now.marks x.marks) }
 {
-    let set = all.minus(given);
-    if is_answer_set(program, given, &set) {
+    let set = all.minus(job.given);
+    if job.is_answer_set(&set) {
         Some(set)
     } else {
         None
     }
 }
 
-// The first answer set between the bounds, in lexical order.
-fn search<'x>(program: &'x Program<96>, given: &'x Row<96>, bounds: &Bounds<96>) -> Option<Row<96>>
-    requires { (Within given.now.marks bounds.now.low.marks) × (((a : ℕ) → In a given.now.marks → is_head (rules_of program.now) a ≢ true)) }
-    ensures { MatchOption result ((i : Marks) → Between (rules_of program.now) given.now.marks bounds.now.low.marks bounds.now.high.marks i → ⊥) (λ x. First (Between (rules_of program.now) given.now.marks bounds.now.low.marks bounds.now.high.marks) x.marks) }
-{
-    let closer = match narrowed(program, given, bounds) {
-        None => return None,
-        Some(closer) => closer,
-    };
-    match lowest(&closer.high.minus(&closer.low)) {
-        None => only(program, given, &closer.low),
-        Some(atom) => {
-            let one = Row::clear().with(usize::from(atom));
-            let absent = Bounds {
-                low: closer.low,
-                high: closer.high.minus(&one),
-            };
-            if let Some(set) = search(program, given, &absent) {
-                return Some(set);
-            }
-            let present = Bounds {
-                low: closer.low.union(&one),
-                high: closer.high,
-            };
-            search(program, given, &present)
+impl<'a> Bounds<'a, 96> {
+    // The first answer set between the bounds, in lexical order.
+    fn search(&self) -> Option<Row<96>>
+        ensures { MatchOption result ((i : Marks) → Between (rules_of self.now.job.program.now) self.now.job.given.now.marks self.now.low.marks self.now.high.marks i → ⊥) (λ x. First (Between (rules_of self.now.job.program.now) self.now.job.given.now.marks self.now.low.marks self.now.high.marks) x.marks) }
+    {
+        let closer = self.narrowed()?;
+        let Some(atom) = lowest(&closer.high.minus(&closer.low)) else {
+            return only(self.job, &closer.low);
+        };
+        let one = Row::clear().with(usize::from(atom));
+        let absent = Bounds {
+            job: self.job,
+            low: closer.low,
+            high: closer.high.minus(&one),
+        };
+        let present = Bounds {
+            job: self.job,
+            low: closer.low.union(&one),
+            high: closer.high,
+        };
+        if let Some(set) = absent.search() {
+            return Some(set);
         }
+        present.search()
     }
 }
 
@@ -84,62 +77,56 @@ fn below(atom: u16) -> Row<96>
     row
 }
 
-// The bounds of the sets that agree with the entry below the atom, and have it.
-fn turned(given: &Row<96>, heads: &Row<96>, entry: &Row<96>, atom: u16) -> Bounds<96>
-    requires { atom < 96 }
-    ensures { Turned given.now.marks heads.now.marks entry.now.marks atom result.low.marks result.high.marks }
-{
-    let below = below(atom);
-    let kept = entry.minus(&entry.minus(&below));
-    let low = kept.union(given).with(usize::from(atom));
-    let high = low.union(&heads.minus(&below));
-    Bounds { low, high }
-}
-
-// The first answer set after the entry: nothing is cut on the way down to the entry, and the deepest turn is tried first.
-fn after<'x>(
-    program: &'x Program<96>,
-    given: &'x Row<96>,
-    heads: &Row<96>,
-    entry: &Row<96>,
-) -> Option<Row<96>>
-    requires { (HeadsTaken 96 96 (rules_of program.now) given.now.marks heads.now.marks) × (AnswerSet (rules_of program.now) given.now.marks entry.now.marks) }
-    ensures { MatchOption result ((z : Marks) → Follows (rules_of program.now) given.now.marks entry.now.marks z → ⊥) (λ x. First (Follows (rules_of program.now) given.now.marks entry.now.marks) x.marks) }
-{
-    let open = heads.minus(entry);
-    let mut atom = 96;
-    while atom > 0 {
-        atom -= 1;
-        if open.has(atom) {
-            if let Some(set) = search(program, given, &turned(given, heads, entry, atom)) {
-                return Some(set);
-            }
+impl<'a> Taken<'a, 96> {
+    // The bounds of the sets that agree with the entry below the atom, and have it.
+    fn turned(&self, entry: &Row<96>, atom: u16) -> Bounds<'a, 96>
+        requires { atom < 96 }
+        ensures { (result.job ≡ self.now.job) × Turned self.now.job.given.now.marks self.now.heads.now.marks entry.now.marks atom result.low.marks result.high.marks }
+    {
+        let below = below(atom);
+        let kept = entry.minus(&entry.minus(&below));
+        let low = kept.union(self.job.given).with(usize::from(atom));
+        let high = low.union(&self.heads.minus(&below));
+        Bounds {
+            job: self.job,
+            low,
+            high,
         }
     }
-    None
-}
 
-// The first answer set, or the first after an earlier entry, which must be one itself.
-fn first_after<'x>(
-    program: &'x Program<96>,
-    given: &'x Row<96>,
-    heads: &Row<96>,
-    earlier: Option<&Row<96>>,
-) -> Result<Option<Row<96>>, Refusal>
-    requires { HeadsTaken 96 96 (rules_of program.now) given.now.marks heads.now.marks }
-    ensures { MatchResult result (GoesOn (branching_order (rules_of program.now) given.now.marks) (from earlier.entry)) (NotListed (branching_order (rules_of program.now) given.now.marks) (from earlier.entry)) }
-{
-    let Some(entry) = earlier else {
-        let whole = Bounds {
-            low: *given,
-            high: given.union(heads),
-        };
-        return Ok(search(program, given, &whole));
-    };
-    if !is_answer_set(program, given, entry) {
-        return Err(Refusal::Unlisted);
+    // The first answer set after the entry: nothing is cut on the way down to the entry, and the deepest turn is tried first.
+    fn after(&self, entry: &Row<96>) -> Option<Row<96>>
+        requires { AnswerSet (rules_of self.now.job.program.now) self.now.job.given.now.marks entry.now.marks }
+        ensures { MatchOption result ((z : Marks) → Follows (rules_of self.now.job.program.now) self.now.job.given.now.marks entry.now.marks z → ⊥) (λ x. First (Follows (rules_of self.now.job.program.now) self.now.job.given.now.marks entry.now.marks) x.marks) }
+    {
+        let open = self.heads.minus(entry);
+        for atom in (0..96).rev() {
+            if open.has(atom) {
+                if let Some(set) = self.turned(entry, atom).search() {
+                    return Some(set);
+                }
+            }
+        }
+        None
     }
-    Ok(after(program, given, heads, entry))
+
+    // The first answer set, or the first after an earlier entry, which must be one itself.
+    fn next_branched(&self, earlier: Option<&Row<96>>) -> Result<Option<Row<96>>, Refusal>
+        ensures { MatchResult result (GoesOn (branching_order (rules_of self.now.job.program.now) self.now.job.given.now.marks) (from earlier.entry)) (NotListed (branching_order (rules_of self.now.job.program.now) self.now.job.given.now.marks) (from earlier.entry)) }
+    {
+        let Some(entry) = earlier else {
+            let whole = Bounds {
+                job: self.job,
+                low: *self.job.given,
+                high: self.job.given.union(self.heads),
+            };
+            return Ok(whole.search());
+        };
+        if !self.job.is_answer_set(entry) {
+            return Err(Refusal::Unlisted);
+        }
+        Ok(self.after(entry))
+    }
 }
 
 // As many atoms as a row has.
@@ -151,21 +138,23 @@ pub struct Branching;
 impl Finder<96> for Branching {
     const MOST: usize = AT_MOST;
 
+    ghost MOST = { 96 };
+
     ghost meaning = { λ _. branching 96 };
 
-    fn most_heads(&self) -> usize {
-        AT_MOST
-    }
-
-    fn next(
+    fn next<'j>(
         &self,
-        program: &Program<96>,
-        given: &Row<96>,
+        program: &'j Program<96>,
+        given: &'j Row<96>,
         earlier: Option<&Row<96>>,
         row: &mut Row<96>,
     ) -> Result<Found, Refusal> {
-        let heads = heads_taken(program, given, AT_MOST)?;
-        let found = first_after(program, given, &heads, earlier)?;
+        let job = Job { program, given };
+        let heads = heads_taken(job, AT_MOST)?;
+        let taken = Taken { job, heads: &heads };
+        let found = taken.next_branched(earlier)?;
         Ok(written(found, row))
     }
+
+    ghost most_is = { λ _. refl };
 }

@@ -1,5 +1,5 @@
 // What a finder of answer sets owes.
-ghost use Rattle.std.specs.Prelude.{◌≡◌};
+ghost use Rattle.std.specs.Prelude.{◌≡◌, ℕ};
 ghost use Rattle.finders.specs.Asked.{Answers, from, refusal_number};
 ghost use Rattle.finders.specs.Meanings.{Meaning};
 ghost use Rattle.programs.specs.Programs.{rules_of};
@@ -43,20 +43,20 @@ pub trait Finder<const N: usize> {
     // The number of heads above which a program is refused.
     const MOST: usize;
 
+    ghost MOST: { ℕ };
+
     // The same number, the order, and the law that every answer set stands there exactly once and nothing else does.
     ghost meaning: { Self → Meaning N };
 
-    // Tells the constant.
-    fn most_heads(&self) -> usize
-        ensures { result ≡ (meaning self.now).most };
-
     // Writes the first entry into the row, or the one after an earlier entry; clears the row where none is left.
-    fn next(
+    fn next<'j>(
         &self,
-        program: &Program<N>,
-        given: &Row<N>,
+        program: &'j Program<N>,
+        given: &'j Row<N>,
         earlier: Option<&Row<N>>,
         row: &mut Row<N>,
     ) -> Result<Found, Refusal>
         ensures { Answers (meaning self.now) (rules_of program.now) given.now.marks (from earlier.entry) row.old.marks result row.new.marks };
+
+    ghost most_is: { (s : Self) → (meaning s).most ≡ MOST };
 }

@@ -6,5 +6,5 @@ pub mod branching;
 pub mod counting;
 pub mod finder;
 pub mod listing;
-mod questions;
+mod taken;
 mod writing;

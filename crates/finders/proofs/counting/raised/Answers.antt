@@ -1,24 +1,9 @@
-use Rattle.std.proofs.Common.{◌≡◌, ◌+◌, ◌<◌, ◌≤◌, false, length, get_or, sym, ap, ◌∙◌, subst, arith}
+use Rattle.std.proofs.Common.{◌≡◌, ◌≤◌, false, length, get_or, sym, ap, ◌∙◌, subst, arith}
 use Rattle.game.specs.Sets.{Row, In}
 use Rattle.closure.specs.Rows.{minus}
 use Rattle.finders.specs.Upward.{Next}
-use Rattle.finders.proofs.Raising.{Cleared, cleared_start, cleared_more, last_from, next_from}
+use Rattle.finders.proofs.Raising.{last_from, next_from}
 use Rattle.finders.proofs.counting.raised.Goals as goal
-
-pub loop-place-init : goal.loop-place-init
-loop-place-init g c = cleared_start c.args.heads.now.marks c.args.set.now.marks c.requires
-
-pub loop-place-preserved : goal.loop-place-preserved
-loop-place-preserved g c =
-    let hs = c.args.heads.now.marks in
-    let s = c.args.set.now.marks in
-    let row = c.loop-place.row.marks in
-    let p = c.loop-place.place in
-    let heads_wide = c.args.heads.now.wide in
-    let wide : length row ≡ length hs = c.loop-place.row.wide ∙ sym heads_wide in
-    let inside : p < length hs = omega (arith, heads_wide, c.loop-place-test.true) in
-    let none : get_or (minus hs s) p false ≡ false = sym (ap (λ (m : Row). get_or m p false) c.minus-free.ensures) ∙ sym c.if-at.ensures in
-    subst (λ (r : Row). Cleared hs s r (p + 1)) (sym c.without-row.ensures) (cleared_more hs s c.requires row p wide inside c.loop-place.invariant none)
 
 pub returns-then-at : goal.returns-then-at
 returns-then-at g c =
