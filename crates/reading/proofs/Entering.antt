@@ -1,29 +1,43 @@
 -- The search for a name in the table of atoms, and the three ways to enter one.
-use Rattle.std.proofs.Common.{◌≡◌, ℕ, suc, ◌+◌, ◌<◌, ◌≤◌, true, false, cond, ltb, List, [], ◌∷◌, ◌++◌, length, get_or, drop, Ok, Err, ap, ◌∙◌, arith}
+use Rattle.std.proofs.Common.{◌≡◌, ℕ, ◌<◌, ◌≤◌, suc, Bool, true, false, cond, ltb, List, [], ◌∷◌, ◌++◌, length, position, Some, None, Ok, Err, Option, sym, refl, ap, ◌∙◌, arith}
+use Rattle.std.specs.List.{position_or_len}
 use Rattle.std.specs.Str.{bytes_eq}
-use Rattle.std.proofs.lemmas.List.{at_drop_more, at_drop_all}
-use Rattle.std.proofs.lemmas.Bool.{lt-ltb, le-ltb}
+use lib.ListN.{length-map}
+use Rattle.std.proofs.lemmas.List.Recursion.{is_position_or_len}
+use Rattle.std.proofs.lemmas.Bool.{lt-ltb, le-ltb, ltb-true, ltb-false}
 use Rattle.refusals.specs.declared.fault.Text.{Text}
 use Rattle.refusals.specs.declared.fault.Fault.TheVariants.{ManyAtoms}
 use Rattle.reading.specs.declared.table.Atom.{Atom}
 use Rattle.reading.specs.Steps.{Standing, index, entered}
-use Rattle.reading.specs.Tables.{standings}
+use Rattle.reading.specs.Tables.{standing, standings}
 
-module _ (n : List ℕ) (as' : List Atom) (i : ℕ) where
-  left : List Atom → ℕ
-  left l = index n (standings l)
+pub none_some : {X : Type 0} {x : X} → ◌≡◌ {A = Option X} None (Some x) → ⊥
+none_some e = cc
 
-  pub index_here : (d : Atom) → i < length as' → bytes_eq (get_or as' i d).name.now n ≡ true → index n (standings (drop i as')) ≡ 0
-  unfolding left
-  index_here d h e = at_drop_more left as' i d h ∙ ap (λ b. cond b 0 (suc (left (drop (i + 1) as')))) e
+module _ (n : List ℕ) (as' : List Atom) where
+  -- the search finds the place that the specification counts
+  place : index n (standings as') ≡ position_or_len (λ a. bytes_eq a.name.now n) as'
+  place = is_position_or_len (λ l. index n (standings l)) (λ a. bytes_eq a.name.now n) refl (λ a l. ap (λ m. cond (bytes_eq a.name.now n) 0 m) (omega arith)) as'
 
-  pub index_on : (d : Atom) → i < length as' → bytes_eq (get_or as' i d).name.now n ≡ false → index n (standings (drop i as')) ≡ suc (index n (standings (drop (i + 1) as')))
-  unfolding left
-  index_on d h e = at_drop_more left as' i d h ∙ ap (λ b. cond b 0 (suc (left (drop (i + 1) as')))) e
+  pub index_found : (i : ℕ) → position (λ a. bytes_eq a.name.now n) as' ≡ Some i → (i ≡ index n (standings as')) × (index n (standings as') < length (standings as'))
+  index_found i e = go (ltb k (length as')) refl e
+    where
+      k : ℕ
+      k = position_or_len (λ a. bytes_eq a.name.now n) as'
 
-  pub index_none : length as' ≤ i → index n (standings (drop i as')) ≡ 0
-  unfolding left
-  index_none h = at_drop_all left as' i h
+      go : (b : Bool) → ltb k (length as') ≡ b → cond b (Some k) None ≡ Some i → (i ≡ index n (standings as')) × (index n (standings as') < length (standings as'))
+      go true less e = let same : k ≡ i = cc in (omega (arith, place, same), omega (arith, place, ltb-true k (length as') less, length-map as' standing))
+      go false less e = absurd (none_some e)
+
+  pub index_none : position (λ a. bytes_eq a.name.now n) as' ≡ None → length (standings as') ≤ index n (standings as')
+  index_none e = go (ltb k (length as')) refl e
+    where
+      k : ℕ
+      k = position_or_len (λ a. bytes_eq a.name.now n) as'
+
+      go : (b : Bool) → ltb k (length as') ≡ b → cond b (Some k) None ≡ None → length (standings as') ≤ index n (standings as')
+      go true less e = absurd (none_some (sym e))
+      go false more e = omega (arith, place, ltb-false k (length as') more, length-map as' standing)
 
 pub index_bound : (n : List ℕ) (ss : List Standing) → index n ss ≤ length ss
 index_bound n [] = omega arith

@@ -1,67 +1,47 @@
--- The steps of the two loops that skip bytes: blanks and comments, and the bytes of a name.
-use Rattle.std.proofs.Common.{◌≡◌, ℕ, suc, ◌+◌, ◌-◌, ◌<◌, ◌≤◌, Bool, true, false, cond, not, eqb, List, ◌∷◌, length, get_or, take, drop, codes, sym, ap, ◌∙◌, arith}
-use Rattle.std.proofs.lemmas.List.{at_drop_more, at_drop_all, drop_more}
+-- How many bytes are a gap or a name, and what stands at a place.
+use Rattle.std.proofs.Common.{◌≡◌, ℕ, suc, ◌+◌, ◌-◌, ◌≤◌, Bool, true, false, cond, not, eqb, leb, subst, List, [], ◌∷◌, refl, length, take, drop, codes, sym, ap, ◌∙◌, arith}
+use Rattle.std.proofs.lemmas.List.{take_all, length-drop, at_drop_all}
+use Rattle.std.specs.List.{take_while}
 use Rattle.std.specs.Str.{bytes_eq}
-use Rattle.std.proofs.lemmas.Bool.{ne_eqb, le-leb}
+use Rattle.std.proofs.lemmas.List.Sums.{take_while-cons}
+use Rattle.std.proofs.lemmas.Bool.{le-leb}
 use Rattle.reading.specs.Classes.{blank, small, name_part}
-use Rattle.reading.specs.Lexical.{gap, run, Lexed, no_token, long_name, token, name, negation, arrow, comma, dot, word, colon, front, end, lexed, past_gap}
+use Rattle.reading.specs.Lexical.{gap, run, Word, Lexed, no_token, long_name, token, name, negation, word, colon, front, end, lexed, past_gap}
 
-module _ (bs : List ℕ) (i : ℕ) (h : i < length bs) where
-  pub run_on : name_part (get_or bs i 0) ≡ true → run (drop i bs) ≡ suc (run (drop (i + 1) bs))
-  run_on e = at_drop_more run bs i 0 h ∙ ap (λ b. cond b (suc (run (drop (i + 1) bs))) 0) e
+-- the run of a name is what `take_while` takes
+run_taken : (bs : List ℕ) → length (take_while name_part bs) ≡ run bs
+run_taken [] = refl
+run_taken (b ∷ bs) =
+    ap length (take_while-cons name_part b bs)
+    ∙ elim (name_part b) as (λ v. length (cond v (b ∷ take_while name_part bs) []) ≡ cond v (suc (run bs)) 0) [ true ↦ ap suc (run_taken bs) | false ↦ refl ]
 
-  pub run_off : name_part (get_or bs i 0) ≡ false → run (drop i bs) ≡ 0
-  run_off e = at_drop_more run bs i 0 h ∙ ap (λ b. cond b (suc (run (drop (i + 1) bs))) 0) e
+run_bound : (bs : List ℕ) → run bs ≤ length bs
+run_bound [] = omega arith
+run_bound (b ∷ bs) = elim (name_part b) as (λ v. cond v (suc (run bs)) 0 ≤ suc (length bs)) [ true ↦ omega (arith, run_bound bs) | false ↦ omega arith ]
 
-  pub gap_blank : blank (get_or bs i 0) ≡ true → gap false (drop i bs) ≡ suc (gap false (drop (i + 1) bs))
-  gap_blank e = at_drop_more (gap false) bs i 0 h ∙ ap (λ b. cond b (suc (gap false (drop (i + 1) bs))) (cond (eqb (get_or bs i 0) 37) (suc (gap true (drop (i + 1) bs))) 0)) e
+gap_bound : (inside : Bool) (bs : List ℕ) → gap inside bs ≤ length bs
+gap_bound true [] = omega arith
+gap_bound false [] = omega arith
+gap_bound true (b ∷ bs) = omega (arith, gap_bound (not (eqb b 10)) bs)
+gap_bound false (b ∷ bs) =
+    elim (blank b) as (λ v. cond v (suc (gap false bs)) (cond (eqb b 37) (suc (gap true bs)) 0) ≤ suc (length bs)) [
+      | true ↦ omega (arith, gap_bound false bs)
+      | false ↦ elim (eqb b 37) as (λ v. cond v (suc (gap true bs)) 0 ≤ suc (length bs)) [ true ↦ omega (arith, gap_bound true bs) | false ↦ omega arith ]
+    ]
 
-  pub gap_percent : get_or bs i 0 ≡ 37 → gap false (drop i bs) ≡ suc (gap true (drop (i + 1) bs))
-  gap_percent e = at_drop_more (gap false) bs i 0 h ∙ ap (λ b. cond (blank b) (suc (gap false (drop (i + 1) bs))) (cond (eqb b 37) (suc (gap true (drop (i + 1) bs))) 0)) e
+-- the part of a text from a place to its end
+rest : (bs : List ℕ) (i : ℕ) → take (length bs - i) (drop i bs) ≡ drop i bs
+rest bs i = take_all (length bs - i) (drop i bs) (omega (arith, length-drop i bs))
 
-  pub gap_off : blank (get_or bs i 0) ≡ false → (get_or bs i 0 ≡ 37 → ⊥) → gap false (drop i bs) ≡ 0
-  gap_off e ne =
-      at_drop_more (gap false) bs i 0 h ∙ ap (λ b. cond b (suc (gap false (drop (i + 1) bs))) (cond (eqb (get_or bs i 0) 37) (suc (gap true (drop (i + 1) bs))) 0)) e
-      ∙ ap (λ b. cond b (suc (gap true (drop (i + 1) bs))) 0) (ne_eqb (get_or bs i 0) 37 ne)
+pub run_rest : (bs : List ℕ) (i n : ℕ) → i ≤ length bs → n ≡ length (take_while name_part (take (length bs - i) (drop i bs))) → (n ≡ run (drop i bs)) × (i + n ≤ length bs)
+run_rest bs i n h e =
+    let same = e ∙ run_taken (take (length bs - i) (drop i bs)) ∙ ap run (rest bs i) in
+    (same, omega (arith, same, run_bound (drop i bs), length-drop i bs))
 
-  pub gap_inside : (on : Bool) → on ≡ not (eqb (get_or bs i 0) 10) → gap true (drop i bs) ≡ suc (gap on (drop (i + 1) bs))
-  gap_inside on e = at_drop_more (gap true) bs i 0 h ∙ ap (λ b. suc (gap b (drop (i + 1) bs))) (sym e)
-
-pub run_none : (bs : List ℕ) (i : ℕ) → length bs ≤ i → run (drop i bs) ≡ 0
-run_none bs i h = at_drop_all run bs i h
-
-pub gap_none : (inside : Bool) (bs : List ℕ) (i : ℕ) → length bs ≤ i → gap inside (drop i bs) ≡ 0
-gap_none true bs i h = at_drop_all (gap true) bs i h
-gap_none false bs i h = at_drop_all (gap false) bs i h
-
--- What stands at a place, by its first byte or first two bytes.
-module _ (bs : List ℕ) (i : ℕ) (h : i < length bs) where
-  pub colon_arrow : (at : ℕ) → get_or bs i 0 ≡ 45 → colon at (drop i bs) ≡ token at (at + 2) arrow
-  colon_arrow at e = at_drop_more (colon at) bs i 0 h ∙ ap (λ b. colon at (b ∷ drop (i + 1) bs)) e
-
-  pub colon_other : (at : ℕ) → (get_or bs i 0 ≡ 45 → ⊥) → colon at (drop i bs) ≡ no_token at
-  colon_other at ne = at_drop_more (colon at) bs i 0 h ∙ ap (λ b. cond b (token at (at + 2) arrow) (no_token at)) (ne_eqb (get_or bs i 0) 45 ne)
-
-  pub front_at : (b : ℕ) → get_or bs i 0 ≡ b → front i (drop i bs) ≡ front i (b ∷ drop (i + 1) bs)
-  front_at b e = at_drop_more (front i) bs i 0 h ∙ ap (λ b. front i (b ∷ drop (i + 1) bs)) e
-
-  -- no comma, dot or colon
-  pub front_else : (get_or bs i 0 ≡ 44 → ⊥) → (get_or bs i 0 ≡ 46 → ⊥) → (get_or bs i 0 ≡ 58 → ⊥) → front i (drop i bs) ≡ cond (small (get_or bs i 0)) (word i (suc (run (drop (i + 1) bs))) (drop i bs)) (no_token i)
-  front_else no-comma no-dot no-colon =
-      at_drop_more (front i) bs i 0 h
-      ∙ ap (λ b. cond b (token i (i + 1) comma) others) (ne_eqb (get_or bs i 0) 44 no-comma)
-      ∙ ap (λ b. cond b (token i (i + 1) dot) (cond (eqb (get_or bs i 0) 58) (colon i (drop (i + 1) bs)) rest)) (ne_eqb (get_or bs i 0) 46 no-dot)
-      ∙ ap (λ b. cond b (colon i (drop (i + 1) bs)) rest) (ne_eqb (get_or bs i 0) 58 no-colon)
-      ∙ ap (λ l. cond (small (get_or bs i 0)) (word i (suc (run (drop (i + 1) bs))) l) (no_token i)) (sym (drop_more bs i 0 h))
-    where
-      rest : Lexed
-      rest = cond (small (get_or bs i 0)) (word i (suc (run (drop (i + 1) bs))) (get_or bs i 0 ∷ drop (i + 1) bs)) (no_token i)
-
-      others : Lexed
-      others = cond (eqb (get_or bs i 0) 46) (token i (i + 1) dot) (cond (eqb (get_or bs i 0) 58) (colon i (drop (i + 1) bs)) rest)
-
-pub colon_end : (bs : List ℕ) (i at : ℕ) → length bs ≤ i → colon at (drop i bs) ≡ no_token at
-colon_end bs i at h = at_drop_all (colon at) bs i h
+pub gap_rest : (bs : List ℕ) (i n : ℕ) → i ≤ length bs → n ≡ gap false (take (length bs - i) (drop i bs)) → (n ≡ gap false (drop i bs)) × (i + n ≤ length bs)
+gap_rest bs i n h e =
+    let same = e ∙ ap (gap false) (rest bs i) in
+    (same, omega (arith, same, gap_bound false (drop i bs), length-drop i bs))
 
 -- a word of at most 32 bytes is a name or the word `not`
 pub word_name : (at n after : ℕ) (bs : List ℕ) → after ≡ at + n → n ≤ 32 → bytes_eq (take n bs) (codes "not") ≡ false → word at n bs ≡ token at after (name (take (after - at) bs))
@@ -76,3 +56,34 @@ lexed_at bs from at e = ap (λ a. front a (drop a bs)) (sym e)
 
 pub front_end : (bs : List ℕ) (i at : ℕ) → length bs ≤ i → front at (drop i bs) ≡ end
 front_end bs i at h = at_drop_all (front at) bs i h
+
+-- a token that starts at a place with n bytes ends within them
+abbrev Ends : ℕ → ℕ → Lexed → Type 0
+Ends at n end = Unit {0}
+Ends at n (no_token at') = Unit {0}
+Ends at n (long_name at') = Unit {0}
+Ends at n (token at' after w) = after ≤ at + n
+
+either : (P : Lexed → Type 0) (b : Bool) (x y : Lexed) → P x → P y → P (cond b x y)
+either P true x y p q = p
+either P false x y p q = q
+
+colon_ends : (at : ℕ) (bs : List ℕ) → Ends at (suc (length bs)) (colon at bs)
+colon_ends at [] = tt
+colon_ends at (b ∷ bs) = either (Ends at (suc (suc (length bs)))) (eqb b 45) _ _ (omega arith) tt
+
+word_ends : (at : ℕ) (b : ℕ) (bs : List ℕ) → Ends at (suc (length bs)) (word at (suc (run bs)) (b ∷ bs))
+word_ends at b bs =
+    let P = Ends at (suc (length bs)) in
+    let within : at + suc (run bs) ≤ at + suc (length bs) = omega (arith, run_bound bs) in
+    either P (leb (suc (run bs)) 32) _ _ (either P (bytes_eq (take (suc (run bs)) (b ∷ bs)) (codes "not")) _ _ within within) tt
+
+front_ends : (at : ℕ) (bs : List ℕ) → Ends at (length bs) (front at bs)
+front_ends at [] = tt
+front_ends at (b ∷ bs) =
+    let P = Ends at (suc (length bs)) in
+    let within : at + 1 ≤ at + suc (length bs) = omega arith in
+    either P (eqb b 44) _ _ within (either P (eqb b 46) _ _ within (either P (eqb b 58) _ _ (colon_ends at bs) (either P (small b) _ _ (word_ends at b bs) tt)))
+
+pub token_ends : (bs : List ℕ) (i after : ℕ) (w : Word) → i ≤ length bs → front i (drop i bs) ≡ token i after w → after ≤ length bs
+token_ends bs i after w h e = omega (arith, subst (Ends i (length (drop i bs))) e (front_ends i (drop i bs)), length-drop i bs)

@@ -13,14 +13,11 @@ use Rattle.reading.specs.declared.phase.Phase.TheVariants.{Start, AfterHead, Aft
 use Rattle.reading.specs.Lexical.{Word, name, negation, arrow, comma, dot}
 use Rattle.reading.specs.Steps.{State, Standing, follow, opens_rule, index, entered, put, literals, named, taken, asked, step, no_rule, fresh}
 use Rattle.reading.specs.Within.{Within}
-use Rattle.reading.proofs.Entering.{index_bound}
+use Rattle.reading.proofs.Entering.{none_some, index_bound}
 use Rattle.reading.proofs.Stepping.{crowded, overfull}
 
 pub err_ok : {X Y : Type 0} {y : Y} {x : X} → ◌≡◌ {A = Result X Y} (Err y) (Ok x) → ⊥
 err_ok e = let z : ◌≡◌ {A = ℕ} 0 1 = cc in omega arith
-
-none_some : {X : Type 0} {x : X} → ◌≡◌ {A = Option X} None (Some x) → ⊥
-none_some e = let z : ◌≡◌ {A = ℕ} 0 1 = cc in omega arith
 
 -- a question that was not refused was answered with yes
 pub passed : {X Y : Type 0} (b : Bool) (y : Y) (r : Result X Y) (x : X) → cond b (Err y) r ≡ Ok x → (b ≡ false) × (r ≡ Ok x)

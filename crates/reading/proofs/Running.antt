@@ -1,6 +1,6 @@
 -- From the steps of reading to the whole of it.
-use Rattle.std.proofs.Common.{◌≡◌, ℕ, ◌<◌, ◌≤◌, Bool, true, false, leb, List, length, Ok, Err, Result, sym, refl, subst, inr, arith}
-use Rattle.std.proofs.lemmas.Bool.{le-leb, lt-leb, leb-true}
+use Rattle.std.proofs.Common.{◌≡◌, ℕ, ◌≤◌, Bool, true, false, leb, List, length, Ok, Err, Result, sym, refl, subst, inr, arith}
+use Rattle.std.proofs.lemmas.Bool.{le-leb, leb-true}
 use Rattle.refusals.specs.declared.fault.Text.{Text}
 use Rattle.refusals.specs.declared.fault.Fault.{Fault}
 use Rattle.refusals.specs.declared.fault.Fault.TheVariants.{LongText}
@@ -17,12 +17,9 @@ module _ (t : Text) (text : List ℕ) (before : List Standing) where
   pub read_short : (r : Result State Fault) → length text ≤ 16384 → Reads t text 0 (fresh before) r → TextRead t text before r
   read_short r short h = subst (by_length r) (sym (le-leb (length text) 16384 short)) h
 
-  pub read_long : 16384 < length text → TextRead t text before (Err (LongText t))
-  read_long long = subst (by_length (Err (LongText t))) (sym (lt-leb (length text) 16384 long)) refl
-
-  -- the same reading, of a draft that knows the text and the state by other names
-  pub as_fresh : (t' : Text) (d : State) (r : Result State Fault) → t' ≡ t → d ≡ fresh before → Reads t' text 0 d r → Reads t text 0 (fresh before) r
-  as_fresh t' d r same_text same-state h = subst (λ s. Reads t text 0 s r) same-state (subst (λ u. Reads u text 0 d r) same_text h)
+  -- the same reading, of a state that is as before the first token
+  pub as_fresh : (d : State) (r : Result State Fault) → d ≡ fresh before → Reads t text 0 d r → Reads t text 0 (fresh before) r
+  as_fresh d r same h = subst (λ s. Reads t text 0 s r) same h
 
   pub finished : (want : Result State Fault) (r : Result (Section × Atoms) Fault) → Finishes want r → TextRead t text before want → Gives t text before r
   finished want (Ok s) f h = (f.0, subst (TextRead t text before) f.1 h, f.2)

@@ -10,10 +10,10 @@ ghost use Rattle.reading.specs.Within.{Within};
 
 use crate::phase::Phase;
 use crate::section::Section;
-use crate::table::Atoms;
+use crate::table::{Atom, Atoms};
 use crate::token::{Spot, Token};
 use programs::program::Program;
-use programs::rule::{Head, Rule};
+use programs::rule::Rule;
 use refusals::fault::{Fault, Text};
 use std::alloc::Global;
 use std::mem;
@@ -25,7 +25,6 @@ const MOST_LITERALS: usize = 16;
 #[derive(Drop)]
 pub(crate) struct Draft<'a> {
     heap: Global,
-    text: Text,
     phase: Phase,
     // Where the rule that goes on starts.
     begun: usize,
@@ -39,20 +38,18 @@ fn no_rule(heap: Global) -> Rule
     ensures { model result ≡ no_rule }
 {
     Rule {
-        head: Head::None,
+        head: None,
         plain: Vec::new(heap),
         negated: Vec::new(heap),
     }
 }
 
 impl<'a> Draft<'a> {
-    pub(crate) fn new(heap: Global, text: Text, atoms: Atoms<'a>) -> Draft<'a>
-        ensures state { state_of result ≡ fresh (standings_of atoms.entry) }
-        ensures text { result.text ≡ text }
+    pub(crate) fn new(heap: Global, atoms: Atoms<'a>) -> Draft<'a>
+        ensures { state_of result ≡ fresh (standings_of atoms.entry) }
     {
         Draft {
             heap,
-            text,
             phase: Phase::Start,
             begun: 0,
             rule: no_rule(heap),
@@ -75,11 +72,10 @@ impl<'a> Draft<'a> {
 
     // An atom joins the rule that goes on.
     fn put(&mut self, atom: u16) -> Result<(), Fault>
-        ensures state { Took (Ok (with_put atom (state_of self.old))) (state_of self.new) result }
-        ensures text { self.new.text ≡ self.old.text }
+        ensures { Took (Ok (with_put atom (state_of self.old))) (state_of self.new) result }
     {
         match self.phase {
-            Phase::Start => self.rule.head = Head::Atom(atom),
+            Phase::Start => self.rule.head = Some(atom),
             Phase::AfterArrow | Phase::AfterComma => self.rule.plain.push(atom)?,
             Phase::AfterNot => self.rule.negated.push(atom)?,
             Phase::AfterHead | Phase::AfterLiteral => {}
@@ -89,8 +85,7 @@ impl<'a> Draft<'a> {
 
     // A token that may open a rule has come at this place.
     fn begin(&mut self, at: usize)
-        ensures state { state_of self.new ≡ with_begin at (state_of self.old) }
-        ensures text { self.new.text ≡ self.old.text }
+        ensures { state_of self.new ≡ with_begin at (state_of self.old) }
     {
         if self.phase.opens_rule() {
             self.begun = at;
@@ -98,22 +93,19 @@ impl<'a> Draft<'a> {
     }
 
     // A name is taken: question 8, then it joins the rule.
-    fn name(&mut self, name: &'a [u8], at: usize, next: Phase) -> Result<(), Fault>
-        ensures state { Took (named at name.now next (state_of self.old) (entered self.old.text at name.now (standings_of self.old.atoms))) (state_of self.new) result }
-        ensures text { self.new.text ≡ self.old.text }
+    fn name(&mut self, atom: Atom<'a>, next: Phase) -> Result<(), Fault>
+        ensures { Took (named atom.entry.at atom.entry.name.now next (state_of self.old) (entered atom.entry.text atom.entry.at atom.entry.name.now (standings_of self.old.atoms))) (state_of self.new) result }
     {
-        let text = self.text;
-        let atom = self.atoms.enter(text, at, name)?;
-        self.put(atom)?;
-        self.begin(at);
+        let number = self.atoms.enter(atom)?;
+        self.put(number)?;
+        self.begin(atom.at);
         self.phase = next;
         Ok(())
     }
 
     // The rule that goes on ends.
     fn close(&mut self, next: Phase) -> Result<(), Fault>
-        ensures state { Took (Ok (with_close next (state_of self.old))) (state_of self.new) result }
-        ensures text { self.new.text ≡ self.old.text }
+        ensures { Took (Ok (with_close next (state_of self.old))) (state_of self.new) result }
     {
         let begun = self.begun;
         let fresh = no_rule(self.heap);
@@ -125,12 +117,18 @@ impl<'a> Draft<'a> {
     }
 
     // A token that the grammar allows is taken, and leads to the next phase.
-    fn accept(&mut self, spot: Spot<'a>, next: Phase) -> Result<(), Fault>
-        ensures state { Took (taken self.old.text spot.entry.at next (state_of self.old) (word_of spot.entry.token)) (state_of self.new) result }
-        ensures text { self.new.text ≡ self.old.text }
+    fn accept(&mut self, text: Text, spot: Spot<'a>, next: Phase) -> Result<(), Fault>
+        ensures { Took (taken text spot.entry.at next (state_of self.old) (word_of spot.entry.token)) (state_of self.new) result }
     {
         match spot.token {
-            Token::Name(name) => self.name(name, spot.at, next),
+            Token::Name(name) => self.name(
+                Atom {
+                    text,
+                    at: spot.at,
+                    name,
+                },
+                next,
+            ),
             Token::Dot => self.close(next),
             Token::Arrow => {
                 self.begin(spot.at);
@@ -162,11 +160,9 @@ impl<'a> Draft<'a> {
     }
 
     // Takes one token more: question 5, then 7, 6 and 8.
-    pub(crate) fn take(&mut self, spot: Spot<'a>) -> Result<(), Fault>
-        ensures state { Took (step self.old.text spot.entry.at (state_of self.old) (word_of spot.entry.token)) (state_of self.new) result }
-        ensures text { self.new.text ≡ self.old.text }
+    pub(crate) fn take(&mut self, text: Text, spot: Spot<'a>) -> Result<(), Fault>
+        ensures { Took (step text spot.entry.at (state_of self.old) (word_of spot.entry.token)) (state_of self.new) result }
     {
-        let text = self.text;
         let at = spot.at;
         let Some(next) = self.phase.after(spot.token) else {
             return Err(Fault::Misplaced { text, at });
@@ -177,17 +173,16 @@ impl<'a> Draft<'a> {
         if self.overfills(spot.token) {
             return Err(Fault::LongBody { text, at });
         }
-        self.accept(spot, next)
+        self.accept(text, spot, next)
     }
 
     // The end of the text, which has this many bytes: question 5 once more.
-    pub(crate) fn finish(self, end: usize) -> Result<(Section, Atoms<'a>), Fault>
+    pub(crate) fn finish(self, text: Text, end: usize) -> Result<(Section, Atoms<'a>), Fault>
         requires { Within (state_of self) }
-        ensures { Finishes (ended self.entry.text end (state_of self.entry)) result }
+        ensures { Finishes (ended text end (state_of self.entry)) result }
     {
         let Draft {
             heap: _,
-            text,
             phase,
             begun: _,
             rule: _,

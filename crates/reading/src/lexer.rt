@@ -1,6 +1,8 @@
 // Cuts a text into tokens, one at a time.
-ghost use Rattle.std.specs.Prelude.{◌≡◌, suc, ◌+◌, ◌<◌, ◌≤◌, length, drop, IfOk};
-ghost use Rattle.reading.specs.Lexical.{run, front, word, colon, lexed, past_gap};
+ghost use Rattle.std.specs.List.{take_while};
+ghost use Rattle.reading.specs.Classes.{name_part};
+ghost use Rattle.std.specs.Prelude.{◌≡◌, false, suc, ◌+◌, ◌<◌, ◌≤◌, length, drop};
+ghost use Rattle.reading.specs.Lexical.{gap, run, front, word, lexed};
 ghost use Rattle.reading.specs.Tokens.{Tells, TellsAt, Moves};
 
 use crate::classes::{is_blank, is_name_part, is_small};
@@ -17,94 +19,31 @@ pub(crate) struct Lexer<'a> {
     ghost inside: { at ≤ length bytes.now },
 }
 
-// Where the blanks and comments that begin at `from` end.
-fn skip_gap(bytes: &[u8], from: usize) -> usize
-    requires { from ≤ length bytes.now }
-    ensures value { result ≡ past_gap bytes.now from }
-    ensures within { result ≤ length bytes.now }
+// How many bytes at the front are blanks and comments.
+fn gap(bytes: &[u8]) -> usize
+    ensures { result ≡ gap false bytes.now }
 {
-    let mut at = from;
     let mut comment = false;
-    while at < bytes.len() {
-        let c = char::from(bytes[at]);
+    for (i, byte) in bytes.iter().enumerate() {
         if comment {
-            comment = c != '\n';
-        } else if c == '%' {
+            comment = *byte != b'\n';
+        } else if *byte == b'%' {
             comment = true;
-        } else if !is_blank(c) {
-            return at;
-        }
-        at += 1;
-    }
-    at
-}
-
-// Where the letters, digits and underscores that begin at `from` end.
-fn skip_name(bytes: &[u8], from: usize) -> usize
-    requires { from ≤ length bytes.now }
-    ensures value { result ≡ from + run (drop from bytes.now) }
-    ensures within { result ≤ length bytes.now }
-{
-    let mut at = from;
-    while at < bytes.len() {
-        if !is_name_part(char::from(bytes[at])) {
-            return at;
-        }
-        at += 1;
-    }
-    at
-}
-
-// The word that starts at `at`, with the place where it ends.
-fn word_at(text: Text, bytes: &[u8], at: usize) -> Result<(Token<'_>, usize), Fault>
-    requires { at < length bytes.now }
-    ensures tells { TellsAt text at (word at (suc (run (drop (at + 1) bytes.now))) (drop at bytes.now)) result }
-    ensures within { IfOk result (λ s. (at < s.1) × (s.1 ≤ length bytes.now)) }
-{
-    let after = skip_name(bytes, at + 1);
-    if after - at > LONGEST_NAME {
-        return Err(Fault::LongName { text, at });
-    }
-    let word = &bytes[at..after];
-    if word == b"not".as_slice() {
-        return Ok((Token::Not, after));
-    }
-    Ok((Token::Name(word), after))
-}
-
-// The token that starts at `at`, with the place where it ends.
-fn token_at(text: Text, bytes: &[u8], at: usize) -> Result<(Token<'_>, usize), Fault>
-    requires { at < length bytes.now }
-    ensures tells { TellsAt text at (front at (drop at bytes.now)) result }
-    ensures within { IfOk result (λ s. (at < s.1) × (s.1 ≤ length bytes.now)) }
-{
-    match char::from(bytes[at]) {
-        ',' => Ok((Token::Comma, at + 1)),
-        '.' => Ok((Token::Dot, at + 1)),
-        ':' => arrow_at(text, bytes, at),
-        c => {
-            if !is_small(c) {
-                return Err(Fault::NoToken { text, at });
-            }
-            word_at(text, bytes, at)
+        } else if !is_blank(char::from(*byte)) {
+            return i;
         }
     }
+    bytes.len()
 }
 
-// The `:-` that starts with the colon at `at`.
-fn arrow_at(text: Text, bytes: &[u8], at: usize) -> Result<(Token<'_>, usize), Fault>
-    requires { at < length bytes.now }
-    ensures tells { TellsAt text at (colon at (drop (at + 1) bytes.now)) result }
-    ensures within { IfOk result (λ s. (at < s.1) × (s.1 ≤ length bytes.now)) }
+// How many bytes at the front are letters, digits and underscores.
+fn run(bytes: &[u8]) -> usize
+    ensures { result ≡ length (take_while name_part bytes.now) }
 {
-    let second = at + 1;
-    if second == bytes.len() {
-        return Err(Fault::NoToken { text, at });
-    }
-    if bytes[second] != b'-' {
-        return Err(Fault::NoToken { text, at });
-    }
-    Ok((Token::Arrow, at + 2))
+    bytes
+        .iter()
+        .take_while(|byte| is_name_part(char::from(**byte)))
+        .count()
 }
 
 impl<'a> Lexer<'a> {
@@ -116,6 +55,45 @@ impl<'a> Lexer<'a> {
         Lexer { text, bytes, at: 0 }
     }
 
+    // The word that starts here, with the place where it ends.
+    fn word(&self) -> Result<(Token<'a>, usize), Fault>
+        requires { self.now.at < length self.now.bytes.now }
+        ensures { TellsAt self.now.text self.now.at (word self.now.at (suc (run (drop (self.now.at + 1) self.now.bytes.now))) (drop self.now.at self.now.bytes.now)) result }
+    {
+        let at = self.at;
+        let length = 1 + run(&self.bytes[at + 1..]);
+        if length > LONGEST_NAME {
+            return Err(Fault::LongName {
+                text: self.text,
+                at,
+            });
+        }
+        let after = at + length;
+        let word = &self.bytes[at..after];
+        if word == b"not".as_slice() {
+            return Ok((Token::Not, after));
+        }
+        Ok((Token::Name(word), after))
+    }
+
+    // The token that starts here, with the place where it ends.
+    fn token(&self) -> Result<(Token<'a>, usize), Fault>
+        requires { self.now.at < length self.now.bytes.now }
+        ensures { TellsAt self.now.text self.now.at (front self.now.at (drop self.now.at self.now.bytes.now)) result }
+    {
+        let at = self.at;
+        match char::from(self.bytes[at]) {
+            ',' => Ok((Token::Comma, at + 1)),
+            '.' => Ok((Token::Dot, at + 1)),
+            ':' if self.bytes.get(at + 1) == Some(&b'-') => Ok((Token::Arrow, at + 2)),
+            c if is_small(c) => self.word(),
+            _ => Err(Fault::NoToken {
+                text: self.text,
+                at,
+            }),
+        }
+    }
+
     // The next token with its place, or none at the end of the text.
     pub(crate) fn next(&mut self) -> Result<Option<Spot<'a>>, Fault>
         ensures tells { Tells self.old.text (lexed self.old.bytes.now self.old.at) self.new.at result }
@@ -123,13 +101,12 @@ impl<'a> Lexer<'a> {
         ensures text { self.new.text ≡ self.old.text }
         ensures bytes { self.new.bytes ≡ self.old.bytes }
     {
-        let bytes = self.bytes;
-        let text = self.text;
-        let at = skip_gap(bytes, self.at);
-        if at == bytes.len() {
+        self.at += gap(&self.bytes[self.at..]);
+        let at = self.at;
+        if at == self.bytes.len() {
             return Ok(None);
         }
-        let (token, after) = token_at(text, bytes, at)?;
+        let (token, after) = self.token()?;
         self.at = after;
         Ok(Some(Spot { token, at }))
     }

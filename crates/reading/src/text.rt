@@ -25,9 +25,9 @@ pub fn read_text<'a>(
         return Err(Fault::LongText { text });
     }
     let mut lexer = Lexer::new(text, bytes);
-    let mut draft = Draft::new(heap, text, atoms);
+    let mut draft = Draft::new(heap, atoms);
     while let Some(spot) = lexer.next()? {
-        draft.take(spot)?;
+        draft.take(text, spot)?;
     }
-    draft.finish(bytes.len())
+    draft.finish(text, bytes.len())
 }

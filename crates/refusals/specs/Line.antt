@@ -1,19 +1,16 @@
 -- The refusal line, and what the call that writes it promises.
-use Rattle.std.specs.Prelude.{◌≡◌, ℕ, ◌+◌, ◌<◌, ◌≤◌, List, [], ◌∷◌, ◌++◌, length, take, drop, codes, decimal}
+use Rattle.std.specs.Prelude.{◌≡◌, ℕ, ◌<◌, ◌≤◌, List, [], ◌∷◌, ◌++◌, length, drop, codes, decimal}
 use Rattle.refusals.specs.Numbers.{number_of, text_of, byte_of}
 use Rattle.refusals.specs.declared.fault.Fault.{Fault}
 use Rattle.refusals.specs.declared.fault.Fault.TheVariants.{NoRoom}
 
--- `% refused 5 text 1 byte 1` and a line feed
-unfoldable pub line : Fault → List ℕ
-line f = codes "% refused " ++ decimal (number_of f) ++ codes " text " ++ decimal (text_of f) ++ codes " byte " ++ decimal (byte_of f) ++ 10 ∷ []
+-- `% refused 5 text 1 byte 1`
+unfoldable pub refusal : Fault → List ℕ
+refusal f = codes "% refused " ++ decimal (number_of f) ++ codes " text " ++ decimal (text_of f) ++ codes " byte " ++ decimal (byte_of f)
 
--- `after` is `before` with the bytes in place of its own from `at` to `end`
-pub record Put (bytes before : List ℕ) (at : ℕ) (after : List ℕ) (end : ℕ) : Type 0 where
-  pub place : end ≡ at + length bytes
-  pub within : end ≤ length after
-  pub upto : take end after ≡ take at before ++ bytes
-  pub past : drop end after ≡ drop end before
+-- that and a line feed
+unfoldable pub line : Fault → List ℕ
+line f = refusal f ++ 10 ∷ []
 
 -- the line stands at the start of `after`, and what comes after its n bytes is as before
 pub record Told (f : Fault) (before after : List ℕ) (n : ℕ) : Type 0 where

@@ -1,60 +1,54 @@
 // The line that tells a refusal, as `% refused 5 text 1 byte 1`.
-ghost use Rattle.std.specs.Prelude.{◌+◌, ◌≤◌, length, decimal, MatchResult};
-ghost use Rattle.refusals.specs.Line.{Put, Told, Untold, line};
+ghost use Rattle.std.specs.Prelude.{◌≡◌, ◌+◌, ◌<◌, ◌≤◌, ◌++◌, length, Some, MatchResult};
+ghost use Rattle.std.specs.Fmt.InlineText.{inline_text};
+ghost use Rattle.refusals.specs.Line.{Told, Untold, refusal};
 
 use crate::fault::Fault;
 use crate::room::write_whole;
+use itoa::Buffer;
+use std::fmt;
+use std::fmt::InlineText;
 
 // Twenty-three fixed bytes, and three numbers of at most twenty digits.
 const LONGEST: usize = 83;
 
-// Writes the decimal digits of `number` from `at` on, and gives the place after them.
-fn write_number(number: u64, out: &mut [u8], at: usize) -> usize
-    requires { at + length (decimal number) ≤ length out.old }
-    ensures { Put (decimal number) out.old at out.new result }
+// The text with `part` after it.
+fn joined(text: InlineText<LONGEST>, part: &str) -> InlineText<LONGEST>
+    requires { length (inline_text text) + length part.now ≤ LONGEST }
+    ensures text { inline_text result ≡ inline_text text ++ part.now }
+    ensures long { length (inline_text result) ≡ length (inline_text text) + length part.now }
 {
-    let last = if number < 10 {
-        at
-    } else {
-        write_number(number / 10, out, at)
-    };
-    out[last] = b'0' + (number % 10) as u8;
-    last + 1
+    text.and_str(part, LONGEST)
 }
 
-// Writes `text` from `at` on, and gives the place after it.
-fn write_text(text: &[u8], out: &mut [u8], at: usize) -> usize
-    requires { at + length text.now ≤ length out.old }
-    ensures { Put text.now out.old at out.new result }
+// The line without its line feed.
+fn refusal_text(fault: Fault) -> InlineText<LONGEST>
+    ensures text { inline_text result ≡ refusal fault }
+    ensures room { length (inline_text result) < LONGEST }
 {
-    let end = at + text.len();
-    out[at..end].copy_from_slice(text);
-    end
+    let mut digits = Buffer::new();
+    let mut text = joined(InlineText::new(), "% refused ");
+    text = joined(text, digits.format(fault.cause()));
+    text = joined(text, " text ");
+    text = joined(text, digits.format(fault.text()));
+    text = joined(text, " byte ");
+    joined(text, digits.format(fault.byte()))
 }
 
-// Writes the whole line from the start of `out`, and gives its length.
-fn write_line(fault: Fault, out: &mut [u8; LONGEST]) -> usize
-    ensures { Put (line fault) out.old 0 out.new result }
-{
-    let cause = u64::from(fault.cause());
-    let text = u64::from(fault.text());
-    let byte = fault.byte() as u64;
-    let mut at = write_text(b"% refused ", out, 0);
-    at = write_number(cause, out, at);
-    at = write_text(b" text ", out, at);
-    at = write_number(text, out, at);
-    at = write_text(b" byte ", out, at);
-    at = write_number(byte, out, at);
-    write_text(b"\n", out, at)
+impl fmt::Display for Fault {
+    ghost output = { λ f. Some (refusal f) };
+
+    fn fmt<W: fmt::Write>(&self, f: &mut fmt::Formatter<W>) -> fmt::Result {
+        f.write_str(refusal_text(*self).as_str())
+    }
 }
 
 // Writes the line and a line feed at the start of `out`, where they fit, and gives their length.
 pub fn refusal_line(fault: Fault, out: &mut [u8]) -> Result<usize, Fault>
     ensures { MatchResult result (Told fault out.old out.new) (Untold fault out.old out.new) }
 {
-    let mut line = [0; LONGEST];
-    let end = write_line(fault, &mut line);
-    write_whole(&line[0..end], out)
+    let line = joined(refusal_text(fault), "\n");
+    write_whole(line.as_str().as_bytes(), out)
 }
 
 #[cfg(test)]

@@ -1,25 +1,13 @@
 // How the table grows, and what it tells.
-ghost use Rattle.std.specs.Prelude.{◌≡◌, [], length};
-ghost use Rattle.reading.specs.Steps.{index};
-ghost use Rattle.reading.specs.Tables.{standings, standings_of, Enters};
+ghost use Rattle.std.specs.Prelude.{◌≡◌, [], length, position};
+ghost use Rattle.std.specs.Str.{bytes_eq};
+ghost use Rattle.reading.specs.Tables.{standings_of, Enters};
 
 use super::{Atom, Atoms};
-use refusals::fault::{Fault, Text};
+use refusals::fault::Fault;
 use std::alloc::Global;
 
 const MOST_ATOMS: usize = 96;
-
-// The place of the name among the entries, or their number where it is not there.
-fn find(entries: &[Atom<'_>], name: &[u8]) -> usize
-    ensures { result ≡ index name.now (standings entries.now) }
-{
-    for (i, atom) in entries.iter().enumerate() {
-        if atom.name == name {
-            return i;
-        }
-    }
-    entries.len()
-}
 
 impl<'a> Atoms<'a> {
     pub fn new(heap: Global) -> Atoms<'a>
@@ -30,17 +18,28 @@ impl<'a> Atoms<'a> {
         }
     }
 
-    // The number of the atom of this name; it joins the table where it is new.
-    pub(crate) fn enter(&mut self, text: Text, at: usize, name: &'a [u8]) -> Result<u16, Fault>
-        ensures { Enters text at name.now (standings_of self.old) (standings_of self.new) result }
+    // The number of the atom of this name, where it stands in the table.
+    fn find(&self, name: &[u8]) -> Option<usize>
+        ensures { result ≡ position (λ a. bytes_eq a.name.now name.now) self.now.entries.items }
     {
-        let number = find(self.entries.as_slice(), name);
-        if number == self.entries.len() {
-            if number >= MOST_ATOMS {
-                return Err(Fault::ManyAtoms { text, at });
-            }
-            self.entries.push(Atom { text, at, name })?;
+        self.entries.iter().position(|atom| atom.name == name)
+    }
+
+    // The number of the atom of this name; it joins the table where it is new.
+    pub(crate) fn enter(&mut self, atom: Atom<'a>) -> Result<u16, Fault>
+        ensures { Enters atom.entry.text atom.entry.at atom.entry.name.now (standings_of self.old) (standings_of self.new) result }
+    {
+        if let Some(number) = self.find(atom.name) {
+            return Ok(number as u16);
         }
+        let number = self.entries.len();
+        if number >= MOST_ATOMS {
+            return Err(Fault::ManyAtoms {
+                text: atom.text,
+                at: atom.at,
+            });
+        }
+        self.entries.push(atom)?;
         Ok(number as u16)
     }
 
