@@ -1,6 +1,7 @@
 // Which finder is asked for.
-ghost use Rattle.std.specs.Prelude.{◌≡◌};
-ghost use Rattle.listing_text.specs.Words.{order_asked};
+ghost use Rattle.listing_text.specs.Words.{Ordered};
+
+use std::str::FromStr;
 
 // In which order the sets are listed.
 #[derive(Clone, Copy, PartialEq, Eq, Debug)]
@@ -9,15 +10,22 @@ pub enum Order {
     Branching,
 }
 
-// The order of this name, if there is one.
-pub fn order_asked(word: &str) -> Option<Order>
-    ensures { result ≡ order_asked word.now }
-{
-    if word == "counting" {
-        return Some(Order::Counting);
+// A word that names no order.
+#[derive(Clone, Copy, PartialEq, Eq, Debug)]
+pub struct UnknownOrder;
+
+impl FromStr for Order {
+    type Err = UnknownOrder;
+
+    ghost from_str_gives = { Ordered };
+
+    fn from_str(word: &str) -> Result<Self, UnknownOrder> {
+        if word == "counting" {
+            Ok(Order::Counting)
+        } else if word == "branching" {
+            Ok(Order::Branching)
+        } else {
+            Err(UnknownOrder)
+        }
     }
-    if word == "branching" {
-        return Some(Order::Branching);
-    }
-    None
 }

@@ -1,41 +1,39 @@
 -- Where heads stand in earlier texts.
-use Rattle.std.proofs.Common.{◌≡◌, ℕ, ◌+◌, ◌<◌, ◌≤◌, Bool, true, false, cond, ◌||◌, List, [], ◌∷◌, ◌++◌, length, get_or, drop, Some, None, Option, sym, refl, ap, ◌∙◌}
-use lib.ListN.{length-map}
-use Rattle.std.proofs.lemmas.List.{drop_more, at_drop_all}
-use Rattle.game.specs.Rules.{Rule, in_rule, stands}
+use Rattle.std.proofs.Common.{◌≡◌, ℕ, Bool, true, false, cond, ◌||◌, List, [], ◌∷◌, Some, None, Option, sym, refl, ap, ◌∙◌, MatchOption}
+use Rattle.std.proofs.Math.Bool.{or-false}
+use Rattle.std.specs.List.{find, zip}
+use Rattle.std.specs.Option.{option_map}
+use Rattle.std.specs.Borrow.{Bor}
+use Rattle.game.specs.Rules.{Rule, stands}
+use Rattle.game.proofs.Heads.{stands_append}
+use Rattle.programs.specs.declared.program.Program.{Program}
 use Rattle.programs.specs.declared.rule.Rule as code
-use Rattle.programs.specs.Model.{model, models}
+use Rattle.programs.specs.Model.{head_model, models}
+use Rattle.programs.specs.Programs.{rules_of}
 use Rattle.reading.specs.Loads.{head_in, taken_head}
+use Rattle.loading.specs.Earlier.{earlier}
 
-or_assoc : (x y z : Bool) → ((x || y) || z) ≡ (x || (y || z))
-or_assoc true y z = refl
-or_assoc false y z = refl
+-- an atom stands in the earlier texts where it stands in the plan text or in the fault text
+pub in_either : (a : ℕ) (plan : Program 96) (faults : Option (Bor (Program 96))) (b : Bool) → MatchOption faults (b ≡ false) (λ f. b ≡ stands a (rules_of f.now)) → (stands a (rules_of plan) || b) ≡ stands a (earlier plan faults)
+in_either a plan None b h = ap (λ x. stands a (rules_of plan) || x) h ∙ or-false (stands a (rules_of plan))
+in_either a plan (Some f) b h = ap (λ x. stands a (rules_of plan) || x) h ∙ sym (stands_append a (rules_of plan) (rules_of f.now))
 
-pub stands_append : (a : ℕ) (rs qs : List Rule) → (stands a rs || stands a qs) ≡ stands a (rs ++ qs)
-stands_append a [] qs = refl
-stands_append a (r ∷ rs) qs = or_assoc (in_rule a r) (stands a rs) (stands a qs) ∙ ap (λ b. in_rule a r || b) (stands_append a rs qs)
+pub in_plan : (a : ℕ) (plan : Program 96) (faults : Option (Bor (Program 96))) → stands a (rules_of plan) ≡ true → true ≡ stands a (earlier plan faults)
+in_plan a plan None h = sym h
+in_plan a plan (Some f) h = ap (λ x. x || stands a (rules_of f.now)) (sym h) ∙ sym (stands_append a (rules_of plan) (rules_of f.now))
 
-module _ (rs : List code.Rule) (ps : List ℕ) (earlier : List Rule) (i : ℕ) where
-  -- what is left from i on
-  abbrev left : Option ℕ
-  left = taken_head (models (drop i rs)) (drop i ps) earlier
+-- the rules with their places, and the first whose head is taken
+taken_is_find : (rs : List code.Rule) (ps : List ℕ) (before : List Rule) → option_map (λ (x : code.Rule × ℕ). x.1) (find (λ x. head_in (head_model x.0.head) before) (zip rs ps)) ≡ taken_head (models rs) ps before
+taken_is_find [] ps before = refl
+taken_is_find (r ∷ rs) [] before = refl
+taken_is_find (r ∷ rs) (p ∷ ps) before =
+    elim (head_in (head_model r.head) before) as (λ b. option_map (λ (x : code.Rule × ℕ). x.1) (cond b (Some (r, p)) (find (λ (x : code.Rule × ℕ). head_in (head_model x.0.head) before) (zip rs ps))) ≡ cond b (Some p) (taken_head (models rs) ps before)) [
+      | true ↦ refl
+      | false ↦ taken_is_find rs ps before
+    ]
 
-  module _ (d : code.Rule) (h : i < length rs) (k : i < length ps) where
-    at_i : left ≡ cond (head_in (model (get_or rs i d)).head earlier) (Some (get_or ps i 0)) (taken_head (models (drop (i + 1) rs)) (drop (i + 1) ps) earlier)
-    at_i = ap (λ l. taken_head (models l) (drop i ps) earlier) (drop_more rs i d h) ∙ ap (λ l. taken_head (models (get_or rs i d ∷ drop (i + 1) rs)) l earlier) (drop_more ps i 0 k)
-
-    pub taken_here : head_in (model (get_or rs i d)).head earlier ≡ true → left ≡ Some (get_or ps i 0)
-    taken_here e = at_i ∙ ap (λ b. cond b (Some (get_or ps i 0)) (taken_head (models (drop (i + 1) rs)) (drop (i + 1) ps) earlier)) e
-
-    pub taken_on : head_in (model (get_or rs i d)).head earlier ≡ false → left ≡ taken_head (models (drop (i + 1) rs)) (drop (i + 1) ps) earlier
-    taken_on e = at_i ∙ ap (λ b. cond b (Some (get_or ps i 0)) (taken_head (models (drop (i + 1) rs)) (drop (i + 1) ps) earlier)) e
-
-  pub taken_none : length rs ≤ i → left ≡ None
-  taken_none h = at_drop_all (λ l. taken_head (models l) (drop i ps) earlier) rs i h
-
--- as many places as rules
-pub as_many : (rules : List code.Rule) (places ps : List ℕ) (rs : List Rule) → models rules ≡ rs → places ≡ ps → length ps ≡ length rs → length places ≡ length rules
-as_many rules places ps rs e f same = ap length f ∙ same ∙ sym (ap length e) ∙ length-map rules model
-
-pub same_taken : (rules : List code.Rule) (places ps : List ℕ) (rs earlier : List Rule) → models rules ≡ rs → places ≡ ps → taken_head (models rules) places earlier ≡ taken_head rs ps earlier
-same_taken rules places ps rs earlier e f = ap (λ l. taken_head l places earlier) e ∙ ap (λ l. taken_head rs l earlier) f
+-- the place of the rule that `find` gives is where the first taken head stands
+pub place_found : (rules : List code.Rule) (places ps : List ℕ) (rs before : List Rule) (r : Option (Bor code.Rule × Bor ℕ)) → models rules ≡ rs → places ≡ ps → option_map (λ x. (x.0.now, x.1.now)) r ≡ find (λ (x : code.Rule × ℕ). head_in (head_model x.0.head) before) (zip rules places) → option_map (λ x. x.1.now) r ≡ taken_head rs ps before
+place_found rules places ps rs before r e f found =
+    let place : option_map (λ (x : Bor code.Rule × Bor ℕ). x.1.now) r ≡ option_map (λ (x : code.Rule × ℕ). x.1) (option_map (λ (x : Bor code.Rule × Bor ℕ). (x.0.now, x.1.now)) r) = elim r as (λ o. option_map (λ (x : Bor code.Rule × Bor ℕ). x.1.now) o ≡ option_map (λ (x : code.Rule × ℕ). x.1) (option_map (λ (x : Bor code.Rule × Bor ℕ). (x.0.now, x.1.now)) o)) [ None ↦ refl | Some x ↦ refl ] in
+    place ∙ (ap (option_map (λ (x : code.Rule × ℕ). x.1)) found ∙ (taken_is_find rules places before ∙ (ap (λ l. taken_head l places before) e ∙ ap (λ l. taken_head rs l before) f)))

@@ -2,6 +2,7 @@
 ghost use Rattle.loading.specs.Loaded.{AllowedExactly, GameGives};
 
 use crate::side::Side;
+use crate::sources::Sources;
 use crate::texts::Texts;
 use crate::texts::methods::read_texts;
 use refusals::fault::Fault;
@@ -14,18 +15,12 @@ pub struct Game<'a> {
 }
 
 // Question 1, then 2 to 8 of each text, then 9 and 10.
-pub fn read_game<'a>(
-    heap: Global,
-    side: u8,
-    plan: &'a [u8],
-    faults: &'a [u8],
-    site: &'a [u8],
-) -> Result<Game<'a>, Fault>
-    ensures gives { GameGives side plan.now faults.now site.now result }
-    ensures allowed { AllowedExactly side plan.now faults.now site.now result }
+pub fn read_game<'a>(heap: Global, side: u8, sources: Sources<'a>) -> Result<Game<'a>, Fault>
+    ensures gives { GameGives side sources.entry.plan.now sources.entry.faults.now sources.entry.site.now result }
+    ensures allowed { AllowedExactly side sources.entry.plan.now sources.entry.faults.now sources.entry.site.now result }
 {
-    let side = Side::from_number(side)?;
-    let texts = read_texts(heap, plan, faults, site)?;
+    let side = Side::try_from(side)?;
+    let texts = read_texts(heap, sources)?;
     texts.heads_apart()?;
     texts.strata_kept()?;
     Ok(Game { side, texts })

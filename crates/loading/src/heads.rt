@@ -6,17 +6,15 @@ ghost use Rattle.reading.specs.Loads.{head_in, taken_head};
 ghost use Rattle.reading.specs.Sections.{part_of};
 
 use programs::program::Program;
-use programs::rule::Head;
 use reading::section::Section;
 
 // Does the head stand in the plan text, or in the fault text where one comes before?
-fn stands(head: Head, plan: &Program<96>, faults: Option<&Program<96>>) -> bool
+fn stands(head: Option<u16>, plan: &Program<96>, faults: Option<&Program<96>>) -> bool
     ensures { result ≡ head_in (head_model head) (earlier plan.now faults.entry) }
 {
-    match (head, faults) {
-        (Head::None, _) => false,
-        (Head::Atom(atom), None) => plan.mentions(atom),
-        (Head::Atom(atom), Some(faults)) => plan.mentions(atom) || faults.mentions(atom),
+    match head {
+        None => false,
+        Some(atom) => plan.mentions(atom) || faults.is_some_and(|faults| faults.mentions(atom)),
     }
 }
 
@@ -28,12 +26,10 @@ pub(crate) fn first_taken(
 ) -> Option<usize>
     ensures { result ≡ taken_head (part_of section.now).rules (part_of section.now).places (earlier plan.now faults.entry) }
 {
-    let places = section.places();
     let rules = section.program().rules();
-    for (i, rule) in rules.iter().enumerate() {
-        if stands(rule.head, plan, faults) {
-            return Some(places[i]);
-        }
-    }
-    None
+    rules
+        .iter()
+        .zip(section.places())
+        .find(|(rule, _)| stands(rule.head, plan, faults))
+        .map(|(_, place)| *place)
 }

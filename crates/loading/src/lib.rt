@@ -4,4 +4,5 @@
 pub mod games;
 mod heads;
 pub mod side;
+pub mod sources;
 pub mod texts;

@@ -11,11 +11,13 @@ pub enum Side {
     EveryPlan,
 }
 
-impl Side {
-    // Question 1: is the side 1 or 2?
-    pub fn from_number(number: u8) -> Result<Side, Fault>
-        ensures { Sided number result }
-    {
+// Question 1: is the side 1 or 2?
+impl TryFrom<u8> for Side {
+    type Error = Fault;
+
+    ghost try_from_gives = { Sided };
+
+    fn try_from(number: u8) -> Result<Self, Fault> {
         match number {
             1 => Ok(Side::SomePlan),
             2 => Ok(Side::EveryPlan),

@@ -4,7 +4,6 @@ ghost use Rattle.programs.specs.Limits.{all_fit};
 ghost use Rattle.reading.specs.Sections.{part_of};
 ghost use Rattle.reading.specs.Tables.{standings_of};
 
-use programs::program::Program;
 use reading::section::Section;
 use reading::table::Atoms;
 
@@ -20,12 +19,4 @@ pub struct Texts<'a> {
     ghost plan_below: { all_fit (length (standings_of atoms)) (part_of plan).rules ≡ true },
     ghost faults_below: { all_fit (length (standings_of atoms)) (part_of faults).rules ≡ true },
     ghost site_below: { all_fit (length (standings_of atoms)) (part_of site).rules ≡ true },
-}
-
-// The programs of the three texts.
-#[derive(Drop)]
-pub struct Programs {
-    pub plan: Program<96>,
-    pub faults: Program<96>,
-    pub site: Program<96>,
 }

@@ -1,21 +1,16 @@
 // The name call: from a number to the part of the text where that atom first stands.
 ghost use Rattle.naming.specs.Named.{Named};
 
+use loading::sources::Sources;
 use loading::texts::methods::read_texts;
 use refusals::fault::Fault;
 use std::alloc::Global;
 
 // Questions 2 to 8 of the three texts, as in a load, then 16: is the number an atom of these texts?
-pub fn name<'a>(
-    heap: Global,
-    plan: &'a [u8],
-    faults: &'a [u8],
-    site: &'a [u8],
-    number: usize,
-) -> Result<&'a [u8], Fault>
-    ensures { Named plan.now faults.now site.now number result }
+pub fn name<'a>(heap: Global, sources: Sources<'a>, number: usize) -> Result<&'a [u8], Fault>
+    ensures { Named sources.entry.plan.now sources.entry.faults.now sources.entry.site.now number result }
 {
-    let texts = read_texts(heap, plan, faults, site)?;
+    let texts = read_texts(heap, sources)?;
     let entries = texts.atoms().entries();
     if number >= entries.len() {
         return Err(Fault::NoAtom);

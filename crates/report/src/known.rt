@@ -9,20 +9,12 @@ use closure::row::Row;
 fn marks_below(row: &Row<96>, number: usize) -> bool
     ensures { Decides result ((k : ℕ) → In k row.now.marks → k < number) }
 {
-    for i in number..96 {
-        if row.at(i) {
-            return false;
-        }
-    }
-    true
+    (number..96).all(|i| !row.at(i))
 }
 
 // The question is put to a plan that is shown.
 pub(crate) fn is_known(shown: Option<Row<96>>, atoms: usize) -> bool
     ensures { Decides result (Known shown atoms) }
 {
-    match shown {
-        Some(row) => marks_below(&row, atoms),
-        None => true,
-    }
+    shown.is_none_or(|row| marks_below(&row, atoms))
 }

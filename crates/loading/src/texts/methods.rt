@@ -7,8 +7,10 @@ ghost use Rattle.reading.specs.Loads.{shared_head};
 ghost use Rattle.reading.specs.Sections.{part_of};
 ghost use Rattle.reading.specs.Tables.{standings_of};
 
-use super::{Programs, Texts};
+use super::Texts;
 use crate::heads::first_taken;
+use crate::sources::{Sources, Three};
+use programs::program::Program;
 use reading::section::Section;
 use reading::table::Atoms;
 use reading::text::read_text;
@@ -17,18 +19,13 @@ use solving::strata::unstratified_rule;
 use std::alloc::Global;
 
 // Questions 2 to 8 of the plan text, the fault text and the site text in turn.
-pub fn read_texts<'a>(
-    heap: Global,
-    plan: &'a [u8],
-    faults: &'a [u8],
-    site: &'a [u8],
-) -> Result<Texts<'a>, Fault>
-    ensures { ThreeGives plan.now faults.now site.now result }
+pub fn read_texts<'a>(heap: Global, sources: Sources<'a>) -> Result<Texts<'a>, Fault>
+    ensures { ThreeGives sources.entry.plan.now sources.entry.faults.now sources.entry.site.now result }
 {
     let atoms = Atoms::new(heap);
-    let (plan, atoms) = read_text(heap, Text::Plan, plan, atoms)?;
-    let (faults, atoms) = read_text(heap, Text::Faults, faults, atoms)?;
-    let (site, atoms) = read_text(heap, Text::Site, site, atoms)?;
+    let (plan, atoms) = read_text(heap, Text::Plan, sources.plan, atoms)?;
+    let (faults, atoms) = read_text(heap, Text::Faults, sources.faults, atoms)?;
+    let (site, atoms) = read_text(heap, Text::Site, sources.site, atoms)?;
     Ok(Texts {
         plan,
         faults,
@@ -70,10 +67,10 @@ impl<'a> Texts<'a> {
     }
 
     // The programs alone, without places and names.
-    pub fn into_programs(self) -> Programs
+    pub fn into_programs(self) -> Three<Program<96>>
         ensures { (rules_of result.plan ≡ (three_of self.entry).plan.rules) × (rules_of result.faults ≡ (three_of self.entry).faults.rules) × (rules_of result.site ≡ (three_of self.entry).site.rules) }
     {
-        Programs {
+        Three {
             plan: self.plan.into_program(),
             faults: self.faults.into_program(),
             site: self.site.into_program(),

@@ -1,33 +1,21 @@
-use Rattle.std.proofs.Common.{sym, ap, ◌∙◌, arith}
+use Rattle.std.proofs.Common.{◌≡◌, ℕ, ◌∙◌, rules, tests}
+use Rattle.std.specs.Option.{option_map}
+use Rattle.std.specs.Borrow.{Bor}
+use Rattle.std.proofs.lemmas.Iterator.{YieldsList-from_slice, YieldsList-from_zip}
+use Rattle.std.proofs.lemmas.Iterator.Search.{find_from_yields_List}
+use Rattle.programs.specs.declared.rule.Rule as code
 use Rattle.programs.specs.Model.{head_model}
 use Rattle.reading.specs.Loads.{head_in}
 use Rattle.loading.specs.Earlier.{earlier}
-use Rattle.loading.proofs.Taking.{as_many, same_taken, taken_here, taken_on, taken_none}
+use Rattle.loading.proofs.Taking.{place_found}
 use Rattle.loading.proofs.heads.first_taken.Goals as goal
-
-pub bounds-places-i : goal.bounds-places-i
-bounds-places-i c =
-    let many = as_many c.rules-rules.result.now _ _ _ (c.rules-rules.ensures ∙ c.program.ensures) c.places-places.ensures c.args.section.now.placed in
-    omega (arith, many, c.loop-i-test.true)
-
-pub returns-then-stands : goal.returns-then-stands
-returns-then-stands c =
-    let E = earlier c.args.plan.now c.args.faults in
-    let rules = c.rules-rules.ensures ∙ c.program.ensures in
-    let places = c.places-places.ensures in
-    let many = as_many c.rules-rules.result.now _ _ _ rules places c.args.section.now.placed in
-    let here = taken_here c.rules-rules.result.now c.places-places.result.now E c.loop-i.i _ c.loop-i-test.true (omega (arith, many, c.loop-i-test.true)) (ap (λ r. head_in (head_model r.head) E) (sym c.index-rules-i.is) ∙ sym c.if-stands.ensures) in
-    sym here ∙ c.loop-i.invariant ∙ same_taken c.rules-rules.result.now _ _ _ E rules places
-
-pub loop-i-preserved : goal.loop-i-preserved
-loop-i-preserved c =
-    let E = earlier c.args.plan.now c.args.faults in
-    let many = as_many c.rules-rules.result.now _ _ _ (c.rules-rules.ensures ∙ c.program.ensures) c.places-places.ensures c.args.section.now.placed in
-    let on = taken_on c.rules-rules.result.now c.places-places.result.now E c.loop-i.i _ c.loop-i-test.true (omega (arith, many, c.loop-i-test.true)) (ap (λ r. head_in (head_model r.head) E) (sym c.index-rules-i.is) ∙ sym c.if-stands.ensures) in
-    sym on ∙ c.loop-i.invariant
 
 pub returns : goal.returns
 returns c =
     let E = earlier c.args.plan.now c.args.faults in
-    let none = taken_none c.rules-rules.result.now c.places-places.result.now E c.loop-i.i c.loop-i-test.false in
-    sym none ∙ c.loop-i.invariant ∙ same_taken c.rules-rules.result.now _ _ _ E (c.rules-rules.ensures ∙ c.program.ensures) c.places-places.ensures
+    let rs = c.rules-rules.result.now in
+    let ps = c.places.result.now in
+    let mapped : c.map.result ≡ option_map (λ (x : Bor code.Rule × Bor ℕ). x.1.now) c.find.result = search rules in
+    mapped
+    ∙ place_found rs ps _ _ E c.find.result (c.rules-rules.ensures ∙ c.program.ensures) c.places.ensures
+    (find_from_yields_List (λ (x : code.Rule × ℕ). head_in (head_model x.0.head) E) c.find.new.self _ c.find.result c.find.ensures.ran (YieldsList-from_zip (YieldsList-from_slice rs cc) (YieldsList-from_slice ps cc)) (λ x b q k. search (rules, tests)))
