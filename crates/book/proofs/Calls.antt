@@ -1,12 +1,11 @@
 -- How what the code finds makes the calls of a book go.
-use Rattle.std.proofs.Common.{◌≡◌, ℕ, ◌<◌, ◌≤◌, Bool, true, false, ◌⊎◌, List, [], ◌∷◌, ◌++◌, map, length, get_or, Some, None, Ok, Err, vec_items, Option, Vec, sym, refl, ap, ◌∙◌, subst, inl, inr, arith}
+use Rattle.std.proofs.Common.{◌≡◌, ℕ, ◌<◌, ◌≤◌, Bool, true, false, ◌⊎◌, List, [], ◌∷◌, ◌++◌, length, get_or, Some, None, Err, vec_items, Option, Vec, sym, refl, ap, ◌∙◌, subst, inl, inr, arith}
 use lib.ListN.{length-map}
 use Rattle.std.proofs.lemmas.List.{get_or-map}
 use Rattle.closure.specs.declared.row.Row as code
 use Rattle.game.specs.Sets.{Row}
 use Rattle.game.specs.Sides.{Side, side_number}
 use Rattle.game.specs.Game.{Texts, nothing}
-use Rattle.finders.specs.Meanings.{Meaning}
 use Rattle.reading.specs.Loads.{Loads}
 use Rattle.refusals.specs.declared.fault.Fault.{Fault}
 use Rattle.refusals.specs.declared.fault.Fault.TheVariants.{NoMemory}

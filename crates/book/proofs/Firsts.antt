@@ -1,19 +1,16 @@
 -- The first of a list with a property, looked for one entry after another.
-use Rattle.std.proofs.Common.{◌≡◌, ℕ, ◌<◌, List, [], ◌∷◌, length, sym, refl, ap, ◌∙◌, subst, inl, inr, arith}
-use Rattle.std.specs.List.{ContainsAt as Has, AllByRecursion}
+use Rattle.std.proofs.Common.{◌<◌, List, [], ◌∷◌, length, sym, refl, ap, subst, inl, inr, arith}
+use Rattle.std.specs.List.{AllByRecursion}
 use Rattle.game.specs.Sets.{Row}
 use Rattle.game.proofs.Listing.{Differ}
-use Rattle.finders.specs.Meanings.{From, start, after, Rest}
-use Rattle.finders.proofs.Resting.{rest_of, past, rest_is, entry_first, entry_listed}
+use Rattle.finders.specs.Meanings.{From, Rest}
+use Rattle.finders.proofs.Resting.{rest_of, past, rest_is, entry_first}
 use Rattle.runs.specs.Book.{First}
 
 -- what is first on the rest is first on the whole, and where the rest has none, the whole has none
 pub record SameFrom (P : Row → Type 0) (xs rest : List Row) : Type 0 where
   pub first : (x : Row) → First P rest x → First P xs x
   pub none : AllByRecursion (λ x. P x → ⊥) rest → AllByRecursion (λ x. P x → ⊥) xs
-
-pub same_whole : (P : Row → Type 0) (xs : List Row) → SameFrom P xs xs
-same_whole P xs = record { first = λ x f. f; none = λ a. a }
 
 module _ (P : Row → Type 0) (xs : List Row) (differ : Differ xs) (at : From) (x : Row) (ys : List Row) (rest : Rest xs at (x ∷ ys)) (same : SameFrom P xs (rest_of xs at)) where
   here : SameFrom P xs (x ∷ past xs x)

@@ -1,4 +1,3 @@
-pub mod Judgements
 pub mod Firsts
 pub mod Scanning
 pub mod Noting

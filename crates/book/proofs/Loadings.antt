@@ -1,12 +1,9 @@
 -- What a load guarantees.
-use Rattle.std.proofs.Common.{◌≡◌, ℕ, ◌≤◌, true, ◌⊎◌, List, [], length, Some, None, Ok, vec_items, Option, Vec, sym, refl, ap, ◌∙◌, subst, inl, inr}
-use Rattle.game.specs.Sides.{Side, side_number}
-use Rattle.game.specs.Rules.{Rule}
-use Rattle.game.specs.Game.{Texts}
+use Rattle.std.proofs.Common.{◌≡◌, ℕ, true, List, [], Some, None, Ok, vec_items, Vec, ap, ◌∙◌}
+use Rattle.game.specs.Sides.{Side}
 use Rattle.game.specs.Strata.{Stratified}
-use Rattle.reading.specs.Loads.{Three, Loads, loads, ThreeRead, all_read}
-use Rattle.reading.specs.Steps.{TextRead}
-use Rattle.runs.specs.Book.{texts_of, opened, new_book, load, done, Goes, loads as Goes-Load}
+use Rattle.reading.specs.Loads.{Three, Loads, loads}
+use Rattle.runs.specs.Book.{texts_of, opened, new_book, load, done, loads as Goes-Load}
 use Rattle.runs.specs.Runs.{Keeps}
 use Rattle.std.specs.declared.alloc.Global.{Global}
 use Rattle.closure.specs.declared.row.Row as code
@@ -17,13 +14,6 @@ use Rattle.runs.proofs.Kept.{call_keeps, new_keeps}
 
 pub loads_stratified : (i : ℕ) (p f s : List ℕ) (x : Side × Three) → Loads i p f s (Ok x) → Stratified (texts_of x).site
 loads_stratified i p f s x (loads y t e read free even) = even
-
-pub loads_side : (i : ℕ) (p f s : List ℕ) (x : Side × Three) → Loads i p f s (Ok x) → (y : Side) × (side_number y ≡ i)
-loads_side i p f s x (loads y t e read free even) = (y, e)
-
-pub same_texts : (x : Side) {p p' f f' s s' : List Rule} → p ≡ p' → f ≡ f' → s ≡ s' → ◌≡◌ {A = Texts} (record { side = x; plans = p; faults = f; site = s }) (record { side = x; plans = p'; faults = f'; site = s' })
-same_texts x {p} {p'} {f} {f'} {s} {s'} a b c =
-    ap (λ q. record { side = x; plans = q; faults = f; site = s }) a ∙ ap (λ q. record { side = x; plans = p'; faults = q; site = s }) b ∙ ap (λ q. record { side = x; plans = p'; faults = f'; site = q }) c
 
 pub opened_keeps : (i : ℕ) (p f s : List ℕ) (x : Side × Three) → Loads i p f s (Ok x) → Keeps (opened (Some (texts_of x)))
 opened_keeps i p f s x l = call_keeps (load true i p f s) new_book (opened (Some (texts_of x))) done (Goes-Load x l) new_keeps

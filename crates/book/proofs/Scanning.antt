@@ -1,22 +1,37 @@
 -- Looking through a list for an element whose image has a property.
-use Rattle.std.proofs.Common.{◌≡◌, ℕ, ◌+◌, ◌<◌, List, map, length, get_or, sym, refl, ap, ◌∙◌, subst, ⊎_elim, arith}
-use Rattle.std.specs.List.{ContainsAt as Has}
-use Rattle.std.proofs.ByRecursion.{has_get_or}
-use Rattle.std.proofs.lemmas.List.{get_or_default}
-use Rattle.std.proofs.lemmas.Bool.{cases_eq}
-use Rattle.game.proofs.Listing.{has_map, has_map_from}
+use Rattle.std.proofs.Common.{◌≡◌, ℕ, zero, suc, ◌<◌, Bool, true, false, List, [], ◌∷◌, map, length, Decides, sym, refl, ap, ◌∙◌, subst, ⊎_elim, arith}
+use Rattle.std.specs.Bool.{MatchBool}
+use Rattle.std.specs.List.{ContainsAt as Has, HoldsAt, AllWithin, list_any}
+use Rattle.std.proofs.lemmas.Bool.{false≢true, or_cases, or_left, or_right}
+use Rattle.game.proofs.Listing.{has_map_from}
+use Rattle.game.proofs.StrataLists.{has_first, has_later, has_cases}
 
-module _ {A B : Type 0} (f : A → B) (P : B → Type 0) (xs : List A) where
-  -- none of the first i has the property
-  abbrev pub NoneOf : ℕ → Type 0
-  NoneOf i = (k : ℕ) (d : A) → k < i → P (f (get_or xs k d)) → ⊥
+module _ {A B : Type 0} (f : A → B) (P : B → Type 0) where
+  pub held : (xs : List A) → (k : ℕ) × (k < length xs) × HoldsAt (λ x. P (f x)) xs k → (y : B) × Has (map f xs) y × P y
+  held [] (k, less, at) = absurd (omega arith)
+  held (x ∷ xs) (zero, less, at) = (f x, has_first (f x) (map f xs), at x)
+  held (x ∷ xs) (suc k, less, at) = let (y, h, p) = held xs (k, omega arith, at) in (y, has_later (f x) y (map f xs) h, p)
 
-  pub found_at : (i : ℕ) (x : A) → i < length xs → x ≡ get_or xs i x → P (f x) → (y : B) × Has (map f xs) y × P y
-  found_at i x less is p = (f x, subst (λ z. Has (map f xs) (f z)) (sym is) (has_map f xs (get_or xs i x) (has_get_or xs i x less)), p)
+  pub none_held : (xs : List A) → AllWithin (λ x. P (f x) → ⊥) xs 0 (length xs) → (y : B) → Has (map f xs) y → P y → ⊥
+  none_held xs none y h p = let (x, (k, less, at), e) = has_map_from f xs y h in none k x (omega arith) less (subst P (sym (ap f (at x) ∙ e)) p)
 
-  pub none_found : NoneOf (length xs) → (y : B) → Has (map f xs) y → P y → ⊥
-  none_found none y h p = let (x, (k, less, at), e) = has_map_from f xs y h in none k x less (subst P (sym (ap f (at x) ∙ e)) p)
+  pub found_decides : (r : Bool) (xs : List A) → MatchBool r ((k : ℕ) × (k < length xs) × HoldsAt (λ x. P (f x)) xs k) (AllWithin (λ x. P (f x) → ⊥) xs 0 (length xs)) → Decides r ((y : B) × Has (map f xs) y × P y)
+  found_decides true xs h = (λ _. held xs h, λ _. refl)
+  found_decides false xs h = (λ e. absurd (false≢true e), λ (y, has, p). absurd (none_held xs h y has p))
 
-  pub none_more : (i : ℕ) (x : A) → i < length xs → x ≡ get_or xs i x → (P (f x) → ⊥) → NoneOf i → NoneOf (i + 1)
-  none_more i x less is out none k d below p =
-      ⊎_elim (λ same. out (subst (λ z. P (f z)) (ap (λ j. get_or xs j d) same ∙ get_or_default xs i d x less ∙ sym is) p)) (λ differ. none k d (omega (arith, differ)) p) (cases_eq k i)
+  -- a test of the elements tells whether the image of one has the property
+  module _ (test : A → Bool) (tells : (x : A) → Decides (test x) (P (f x))) where
+    passed : (xs : List A) → list_any test xs ≡ true → (y : B) × Has (map f xs) y × P y
+    passed [] e = absurd (false≢true e)
+    passed (x ∷ xs) e =
+        ⊎_elim (λ here. (f x, has_first (f x) (map f xs), (tells x).0 here)) (λ later. let (y, h, p) = passed xs later in (y, has_later (f x) y (map f xs) h, p))
+        (or_cases (test x) (list_any test xs) e)
+
+    passes : (xs : List A) (y : B) → Has (map f xs) y → P y → list_any test xs ≡ true
+    passes [] y (k, less, at) p = absurd (omega arith)
+    passes (x ∷ xs) y h p =
+        ⊎_elim (λ e. or_left (test x) (list_any test xs) ((tells x).1 (subst P (sym e) p))) (λ later. or_right (test x) (list_any test xs) (passes xs y later p))
+        (has_cases (f x) y (map f xs) h)
+
+    pub any_decides : (xs : List A) → Decides (list_any test xs) ((y : B) × Has (map f xs) y × P y)
+    any_decides xs = (passed xs, λ (y, h, p). passes xs y h p)

@@ -1,10 +1,10 @@
 -- An ask put to a book: what it takes, what it leaves in order, and what it says of the texts.
-use Rattle.std.proofs.Common.{◌≡◌, ℕ, ◌<◌, ◌≤◌, Bool, true, false, ltb, List, [], ◌∷◌, map, length, Some, None, Option, sym, refl, ap, ◌∙◌, subst, inl, inr, arith}
+use Rattle.std.proofs.Common.{◌≡◌, ℕ, ◌<◌, ◌≤◌, Bool, true, false, List, [], ◌∷◌, length, Some, None, Option, sym, refl, ap, ◌∙◌, subst, inl, inr, arith}
 use mathlib.Core.HLevel.{⊥_prop}
 use mathlib.Core.Logic.{∥∥₁_elim, ∥∥₁_prop}
 use lib.ListN.{length-replicate}
 use Rattle.std.specs.List.{ContainsAt as Has}
-use Rattle.std.proofs.lemmas.Bool.{lt-ltb, false≢true}
+use Rattle.std.proofs.lemmas.Bool.{false≢true}
 use Rattle.game.specs.Sets.{Row}
 use Rattle.game.specs.Rules.{Rule}
 use Rattle.game.specs.Sides.{Side, some_plan, every_plan}
@@ -12,7 +12,6 @@ use Rattle.game.specs.Game.{Texts, Wins, nothing}
 use Rattle.game.proofs.Rows.{in_none}
 use Rattle.game.proofs.StrataLists.{has_first}
 use Rattle.finders.specs.Meanings.{Meaning, heads_below}
-use Rattle.closure.specs.declared.row.Row as code
 use Rattle.runs.specs.Book as runs
 use Rattle.runs.specs.Book.{Book, Asked, TooMany, Coherence, IsCoherence, coherent, incoherent, Goes, asks, ask, told, verdict_of, row_of}
 use Rattle.runs.specs.Runs.{Keeps}
@@ -22,7 +21,7 @@ use Rattle.runs.proofs.Firsts.{first_holds}
 use Rattle.runs.proofs.Deciding.{some_coherence}
 use Rattle.runs.proofs.Kept.{call_keeps}
 use Rattle.book.specs.declared.loaded.Loaded.{Loaded}
-use Rattle.book.specs.Models.{texts_from, rows}
+use Rattle.book.specs.Models.{texts_from}
 use Rattle.book.specs.Passing.{Takes}
 use Rattle.book.specs.Asks.{coherence_by}
 use Rattle.book.specs.Showing.{AsksTo, some_winner}
@@ -49,10 +48,6 @@ takes f l few = record {
     apart = λ a i h. l.apart a (p.heads a i) h;
   };
 }
-
-pub some_struck : (xs : List (code.Row 96)) → ltb 0 (length xs) ≡ some_winner None (rows xs)
-some_struck [] = refl
-some_struck (x ∷ xs) = lt-ltb 0 (length (x ∷ xs)) (omega arith)
 
 -- an ask, put to the book b, leaves b'
 module _ (f : Meaning 96) (t : Texts) (b b' : Book) (has : b.texts ≡ Some t) (few : TooMany f t → ⊥) (asked : AsksTo f t b b') where

@@ -6,3 +6,4 @@ pub mod Asks
 pub mod Showing
 pub mod Kept
 pub mod Books
+pub mod Kinds

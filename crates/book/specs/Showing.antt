@@ -1,5 +1,5 @@
 -- What an ask makes of an open book, and tells of it.
-use Rattle.std.specs.Prelude.{◌≡◌, ℕ, Bool, true, false, List, [], ◌∷◌, length, Some, None, vec_items, Option}
+use Rattle.std.specs.Prelude.{◌≡◌, Bool, true, false, List, [], ◌∷◌, length, Some, None, vec_items, Option}
 use Rattle.game.specs.Sets.{Row}
 use Rattle.game.specs.Game.{Texts, nothing}
 use Rattle.finders.specs.Meanings.{Meaning}

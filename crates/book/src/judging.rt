@@ -6,7 +6,7 @@ ghost use Rattle.book.specs.Models.{texts_from};
 use crate::loaded::Loaded;
 use closure::row::Row;
 use loading::side::Side;
-use solving::answer::is_answer_set;
+use solving::job::Job;
 
 impl Loaded {
     // Is the site text, for this plan and reply, as the side does not want it?
@@ -21,10 +21,14 @@ impl Loaded {
     }
 
     // Is it a reply to this plan, and does it beat the plan?
-    pub(crate) fn beats(&self, plan: &Row<96>, reply: &Row<96>) -> bool
+    pub(crate) fn beats<'j>(&'j self, plan: &'j Row<96>, reply: &Row<96>) -> bool
         ensures { Decides result (Beats (texts_from self.now) plan.now.marks reply.now.marks) }
     {
-        if !is_answer_set(&self.faults, plan, reply) {
+        let job = Job {
+            program: &self.faults,
+            given: plan,
+        };
+        if !job.is_answer_set(reply) {
             return false;
         }
         self.refutes(plan, reply)

@@ -4,6 +4,7 @@
 pub mod book;
 mod following;
 mod judging;
+mod kind;
 mod loaded;
 mod open;
 mod pair;

@@ -11,6 +11,12 @@ pub mod keeping;
 pub mod opening;
 pub mod showing;
 
+// So many plans can be struck.
+pub(crate) const MOST_STRUCK: usize = 64;
+
+// So many pairs stand on a full sheet.
+pub(crate) const MOST_PAIRS: usize = 256;
+
 // It keeps to what a book keeps to, and has room for 64 struck plans and 256 pairs.
 #[derive(Drop)]
 pub(crate) struct Open {

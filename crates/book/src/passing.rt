@@ -13,12 +13,7 @@ use closure::row::Row;
 fn is_struck(struck: &[Row<96>], plan: &Row<96>) -> bool
     ensures { Decides result (Has (rows struck.now) plan.now.marks) }
 {
-    for row in struck {
-        if row.same(plan) {
-            return true;
-        }
-    }
-    false
+    struck.contains(plan)
 }
 
 impl Loaded {
@@ -26,12 +21,7 @@ impl Loaded {
     fn is_beaten(&self, sheet: &[Pair], plan: &Row<96>) -> bool
         ensures { Decides result (SheetBeats (texts_from self.now) (pairs sheet.now) plan.now.marks) }
     {
-        for pair in sheet {
-            if self.beats(plan, &pair.reply) {
-                return true;
-            }
-        }
-        false
+        sheet.iter().any(|pair| self.beats(plan, &pair.reply))
     }
 
     // Is the plan struck, or beaten by a reply on the sheet?

@@ -8,11 +8,11 @@ ghost use Rattle.book.specs.Passing.{Takes};
 
 use crate::following::following;
 use crate::loaded::Loaded;
+use crate::open::MOST_PAIRS;
 use crate::pair::Pair;
 use closure::row::Row;
 use finders::finder::Finder;
-
-const MOST_PAIRS: usize = 256;
+use solving::job::Job;
 
 // Puts the pair at the end of the sheet, unless it is full.
 fn note(sheet: &mut Vec<Pair>, pair: Pair)
@@ -36,8 +36,12 @@ impl Loaded {
         ensures { (Asked (texts_from self.now) (rows struck.now) (λ m. (F.meaning finder.now).order (rules_of self.now.faults) m) ((F.meaning finder.now).order (rules_of self.now.plan) nothing) (pairs sheet.old.items) (row_shown result) (pairs sheet.new.items)) × (vec_capacity sheet.new ≡ vec_capacity sheet.old) }
     {
         let nothing = Row::clear();
+        let job = Job {
+            program: &self.plan,
+            given: &nothing,
+        };
         let mut earlier = None;
-        while let Some(plan) = following(finder, &self.plan, &nothing, earlier) {
+        while let Some(plan) = following(finder, job, earlier) {
             if !self.passes_over(struck, sheet.as_slice(), &plan) {
                 match self.first_beating(finder, &plan) {
                     None => return Some(plan),

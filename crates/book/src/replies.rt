@@ -11,15 +11,24 @@ use crate::following::following;
 use crate::loaded::Loaded;
 use closure::row::Row;
 use finders::finder::Finder;
+use solving::job::Job;
 
 impl Loaded {
     // The first reply to the plan, in the finder's order, that beats it.
-    pub(crate) fn first_beating<F: Finder<96>>(&self, finder: &F, plan: &Row<96>) -> Option<Row<96>>
+    pub(crate) fn first_beating<'j, F: Finder<96>>(
+        &'j self,
+        finder: &F,
+        plan: &'j Row<96>,
+    ) -> Option<Row<96>>
         requires { Taken 96 (F.meaning finder.now).most (rules_of self.now.faults) plan.now.marks }
         ensures { MatchOption result (AllByRecursion (λ x. Beats (texts_from self.now) plan.now.marks x → ⊥) ((F.meaning finder.now).order (rules_of self.now.faults) plan.now.marks)) (λ x. First (Beats (texts_from self.now) plan.now.marks) ((F.meaning finder.now).order (rules_of self.now.faults) plan.now.marks) x.marks) }
     {
+        let job = Job {
+            program: &self.faults,
+            given: plan,
+        };
         let mut earlier = None;
-        while let Some(reply) = following(finder, &self.faults, plan, earlier) {
+        while let Some(reply) = following(finder, job, earlier) {
             if self.refutes(plan, &reply) {
                 return Some(reply);
             }

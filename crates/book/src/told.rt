@@ -43,22 +43,22 @@ pub struct Told {
     pub struck: usize,
 }
 
-impl Verdict {
-    pub fn number(self) -> u8
-        ensures { result ≡ verdict_number (verdict_model self) }
-    {
-        match self {
+impl From<Verdict> for u8 {
+    ghost from_gives = { λ verdict r. r ≡ verdict_number (verdict_model verdict) };
+
+    fn from(verdict: Verdict) -> u8 {
+        match verdict {
             Verdict::PlanShown => 1,
             Verdict::NoPlan => 2,
         }
     }
 }
 
-impl Coherence {
-    pub fn number(self) -> u8
-        ensures { result ≡ coherence_number (coherence_model self) }
-    {
-        match self {
+impl From<Coherence> for u8 {
+    ghost from_gives = { λ coherence r. r ≡ coherence_number (coherence_model coherence) };
+
+    fn from(coherence: Coherence) -> u8 {
+        match coherence {
             Coherence::Coherent => 1,
             Coherence::Incoherent => 2,
         }

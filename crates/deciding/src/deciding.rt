@@ -8,6 +8,7 @@ use book::book::Book;
 use book::told::{Coherence, Verdict};
 use closure::row::Row;
 use finders::branching::Branching;
+use loading::sources::Sources;
 use refusals::fault::Fault;
 use report::verdict::report;
 use std::alloc::Global;
@@ -24,38 +25,25 @@ fn plan_shown(verdict: Verdict, row: Row<96>) -> Option<Row<96>>
 fn is_coherent(coherence: Coherence) -> bool
     ensures { result ≡ says_coherent (coherence_model coherence) }
 {
-    match coherence {
-        Coherence::Coherent => true,
-        Coherence::Incoherent => false,
-    }
+    coherence == Coherence::Coherent
 }
 
 // Writes whether the texts are coherent, and the first winning plan or that there is none; or refuses, and the buffer is as it was.
-pub fn decide<'x>(
+pub fn decide(
     heap: Global,
     side: u8,
-    plan: &'x [u8],
-    faults: &'x [u8],
-    site: &'x [u8],
+    sources: Sources<'_>,
     buffer: &mut [u8],
 ) -> Result<usize, Fault>
-    ensures decided { Decided side plan.now faults.now site.now buffer.old buffer.new result }
+    ensures decided { Decided side sources.entry.plan.now sources.entry.faults.now sources.entry.site.now buffer.old buffer.new result }
     ensures fits { Fits buffer.old result }
 {
     let mut book = Book::new();
-    book.load(heap, side, plan, faults, site)?;
+    book.load(heap, side, sources)?;
     let mut row = Row::clear();
     let Ok(told) = book.ask(&Branching, &mut row) else {
         unreachable()
     };
     let shown = plan_shown(told.verdict, row);
-    report(
-        heap,
-        plan,
-        faults,
-        site,
-        is_coherent(told.coherence),
-        shown,
-        buffer,
-    )
+    report(heap, sources, is_coherent(told.coherence), shown, buffer)
 }

@@ -6,14 +6,15 @@ ghost use Rattle.book.specs.Answers.{ask_answer, strike_answer, look_answer};
 ghost use Rattle.book.specs.Books.{book_of, LoadsTo, Untouched};
 
 use super::Book;
+use crate::kind::Kind;
+use crate::open::MOST_STRUCK;
 use crate::open::opening::open;
 use crate::told::{Refusal, Told};
 use closure::row::Row;
 use finders::finder::Finder;
+use loading::sources::Sources;
 use refusals::fault::Fault;
 use std::alloc::Global;
-
-const MOST_STRUCK: usize = 64;
 
 impl Book {
     // A new book: nothing is loaded. No order of calls spoils it.
@@ -25,17 +26,10 @@ impl Book {
     }
 
     // Reads a side and three texts; they replace all that the book had, or are refused and change nothing.
-    pub fn load<'x>(
-        &mut self,
-        heap: Global,
-        side: u8,
-        plan: &'x [u8],
-        faults: &'x [u8],
-        site: &'x [u8],
-    ) -> Result<(), Fault>
-        ensures { LoadsTo side plan.now faults.now site.now (book_of self.old) result (book_of self.new) }
+    pub fn load(&mut self, heap: Global, side: u8, sources: Sources<'_>) -> Result<(), Fault>
+        ensures { LoadsTo side sources.entry.plan.now sources.entry.faults.now sources.entry.site.now (book_of self.old) result (book_of self.new) }
     {
-        let open = open(heap, side, plan, faults, site)?;
+        let open = open(heap, side, sources)?;
         self.open = Some(open);
         Ok(())
     }
@@ -48,7 +42,7 @@ impl Book {
         let Some(open) = self.open.take() else {
             return Err(Refusal::NothingLoaded);
         };
-        if open.loaded.has_more_heads(finder.most_heads()) {
+        if open.loaded.has_more_heads(F::MOST) {
             self.open = Some(open);
             return Err(Refusal::TooManyHeads);
         }
@@ -93,6 +87,7 @@ impl Book {
         let Some(open) = &self.open else {
             return Err(Refusal::NothingLoaded);
         };
+        let kind = Kind::try_from(kind)?;
         let Some(pair) = open.entry(kind, place) else {
             return Err(Refusal::NoEntry);
         };

@@ -2,10 +2,12 @@
 ghost use Rattle.std.specs.Prelude.{◌≡◌, ◌<◌, [], ◌∷◌, ◌++◌, length, Some, None, MatchOption};
 ghost use Rattle.runs.specs.Book.{Goes, look, wrote, refused, no_entry, opened};
 ghost use Rattle.book.specs.Kept.{with_struck};
+ghost use Rattle.book.specs.Kinds.{kind_number};
 ghost use Rattle.book.specs.Models.{texts_from};
 ghost use Rattle.book.specs.Opened.{open_book};
 
 use super::Open;
+use crate::kind::Kind;
 use crate::pair::Pair;
 use closure::row::Row;
 
@@ -41,19 +43,19 @@ impl Open {
         }
     }
 
-    // Kind 1 is a pair of the sheet; kind 2 a struck plan, with an empty second row.
-    pub(crate) fn entry(&self, kind: u8, place: usize) -> Option<Pair>
-        ensures { MatchOption result (Goes (look kind place) (open_book self.now) (refused no_entry) (open_book self.now)) (λ p. Goes (look kind place) (open_book self.now) (wrote p.plan.marks p.reply.marks) (open_book self.now)) }
+    // A pair of the sheet; or a struck plan, with an empty second row.
+    pub(crate) fn entry(&self, kind: Kind, place: usize) -> Option<Pair>
+        ensures { MatchOption result (Goes (look (kind_number kind) place) (open_book self.now) (refused no_entry) (open_book self.now)) (λ p. Goes (look (kind_number kind) place) (open_book self.now) (wrote p.plan.marks p.reply.marks) (open_book self.now)) }
     {
-        if kind == 1 && place < self.sheet.len() {
-            return Some(self.sheet.as_slice()[place]);
+        match kind {
+            Kind::Pair => self.sheet.as_slice().get(place).copied(),
+            Kind::Struck => {
+                let plan = *self.struck.as_slice().get(place)?;
+                Some(Pair {
+                    plan,
+                    reply: Row::clear(),
+                })
+            }
         }
-        if kind == 2 && place < self.struck.len() {
-            return Some(Pair {
-                plan: self.struck.as_slice()[place],
-                reply: Row::clear(),
-            });
-        }
-        None
     }
 }

@@ -8,9 +8,10 @@ ghost use Rattle.runs.specs.Book.{texts_of};
 ghost use Rattle.book.specs.Models.{texts_from};
 ghost use Rattle.book.specs.Opened.{Opens};
 
-use super::Open;
+use super::{MOST_PAIRS, MOST_STRUCK, Open};
 use crate::loaded::Loaded;
 use loading::games::{Game, read_game};
+use loading::sources::Sources;
 use refusals::fault::Fault;
 use solving::stratified::Stratified;
 use std::alloc::Global;
@@ -34,18 +35,12 @@ fn loaded(game: Game) -> Loaded
 }
 
 // The book that these texts open, with nothing struck, noted or shown.
-pub(crate) fn open<'x>(
-    heap: Global,
-    side: u8,
-    plan: &'x [u8],
-    faults: &'x [u8],
-    site: &'x [u8],
-) -> Result<Open, Fault>
-    ensures { Opens side plan.now faults.now site.now result }
+pub(crate) fn open(heap: Global, side: u8, sources: Sources<'_>) -> Result<Open, Fault>
+    ensures { Opens side sources.entry.plan.now sources.entry.faults.now sources.entry.site.now result }
 {
-    let game = read_game(heap, side, plan, faults, site)?;
-    let struck = Vec::with_capacity(heap, 64)?;
-    let sheet = Vec::with_capacity(heap, 256)?;
+    let game = read_game(heap, side, sources)?;
+    let struck = Vec::with_capacity(heap, MOST_STRUCK)?;
+    let sheet = Vec::with_capacity(heap, MOST_PAIRS)?;
     Ok(Open {
         loaded: loaded(game),
         struck,

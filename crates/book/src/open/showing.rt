@@ -44,10 +44,7 @@ impl Open {
     fn has_winner(&self) -> bool
         ensures { result ≡ some_winner (row_shown self.now.shown) (rows self.now.struck.items) }
     {
-        match self.shown {
-            Some(_) => true,
-            None => self.struck.len() > 0,
-        }
+        self.shown.is_some() || self.struck.len() > 0
     }
 
     // What an ask tells of the book that it leaves.
@@ -66,9 +63,6 @@ impl Open {
     pub(crate) fn row(&self) -> Row<96>
         ensures { result.marks ≡ row_of (row_shown self.now.shown) }
     {
-        match self.shown {
-            Some(row) => row,
-            None => Row::clear(),
-        }
+        self.shown.unwrap_or(Row::clear())
     }
 }

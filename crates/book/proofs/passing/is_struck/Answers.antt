@@ -1,19 +1,19 @@
-use Rattle.std.proofs.Common.{◌≡◌, true, false, length, refl, subst, arith}
+use Rattle.std.proofs.Common.{◌≡◌, Decides, sym, refl, subst}
+use Rattle.std.proofs.Math.Bool.{beq}
+use Rattle.std.specs.Cmp.Lexicographic.{pointwise}
 use Rattle.std.specs.List.{ContainsAt as Has}
-use Rattle.std.proofs.lemmas.Bool.{false≢true}
 use Rattle.closure.specs.declared.row.Row as code
+use Rattle.closure.proofs.Marks.{told_same}
 use Rattle.game.specs.Sets.{Row}
 use Rattle.book.specs.Models.{rows}
-use Rattle.book.proofs.Scanning.{found_at, none_found}
+use Rattle.book.proofs.Scanning.{any_decides}
 use Rattle.book.proofs.passing.is_struck.Goals as goal
-
-pub returns-then-same : goal.returns-then-same
-returns-then-same c =
-    let plan = c.args.plan.now.marks in
-    let (y, has, e) = found_at (λ (r : code.Row 96). r.marks) (λ (y : Row). y ≡ plan) c.args.struck.now c.loop-row.row-index c.row-item.result c.loop-row-test.true c.row-item.is (c.same.ensures.0 c.if-same.true) in
-    (λ _. subst (Has (rows c.args.struck.now)) e has, λ _. refl)
 
 pub returns : goal.returns
 returns c =
     let plan = c.args.plan.now.marks in
-    (λ e. absurd (false≢true e), λ has. absurd (none_found (λ (r : code.Row 96). r.marks) (λ (y : Row). y ≡ plan) c.args.struck.now (λ k d less. c.loop-row.invariant k d (omega (arith, c.loop-row-test.false))) plan has refl))
+    let struck = c.args.struck.now in
+    let found : Decides c.contains.result ((y : Row) × Has (rows struck) y × (y ≡ plan)) =
+    subst (λ b. Decides b ((y : Row) × Has (rows struck) y × (y ≡ plan))) (sym c.contains.ensures.value)
+    (any_decides (λ (r : code.Row 96). r.marks) (λ y. y ≡ plan) (λ r. pointwise beq r.marks plan) (λ r. told_same r.marks plan _ refl) struck) in
+    (λ e. let (y, has, same) = found.0 e in subst (Has (rows struck)) same has, λ has. found.1 (plan, has, refl))

@@ -16,15 +16,15 @@ returns-in_err-load c =
     let (memory, goes) = c.in_err-load.ensures in
     record {
       decided =
-          subst (λ r. Decided c.args.side c.args.plan.now c.args.faults.now c.args.site.now c.args.buffer.now c.args.buffer.now r) (sym (p.1 ∙ ap Err p.2))
-          (not_taken memory e (book_of c.load.new.self) (subst (λ b. Goes (load memory c.args.side c.args.plan.now c.args.faults.now c.args.site.now) b (refused (not_loaded e)) (book_of c.load.new.self)) c.new-book.ensures.empty goes) refl);
+          subst (λ r. Decided c.args.side c.args.sources.plan.now c.args.sources.faults.now c.args.sources.site.now c.args.buffer.now c.args.buffer.now r) (sym (p.1 ∙ ap Err p.2))
+          (not_taken memory e (book_of c.load.new.self) (subst (λ b. Goes (load memory c.args.side c.args.sources.plan.now c.args.sources.faults.now c.args.sources.site.now) b (refused (not_loaded e)) (book_of c.load.new.self)) c.new-book.ensures.empty goes) refl);
       fits = subst (λ r. Fits c.args.buffer.now r) (sym (p.1 ∙ ap Err p.2)) tt;
     }
 
 pub unreachable-requires : goal.unreachable-requires
 unreachable-requires c =
     let (memory, goes) = c.in_ok-load.ensures in
-    let (t, has) = has_texts memory c.args.side c.args.plan.now c.args.faults.now c.args.site.now _ (book_of c.load.new.self) done goes in
+    let (t, has) = has_texts memory c.args.side c.args.sources.plan.now c.args.sources.faults.now c.args.sources.site.now _ (book_of c.load.new.self) done goes in
     shows (book_of c.load.new.self) (book_of c.ask.new.self) (refused (refusal_model c.in_default.field-0)) c.in_default.ensures.goes t has
 
 pub returns : goal.returns
@@ -38,8 +38,8 @@ returns c =
     record {
       decided =
           reports memory b b' (verdict_model a.verdict) (coherence_model a.coherence) a.pairs a.struck c.ask.new.row.marks c.plan_shown-shown.result c.report.result
-          (subst (λ z. Goes (load memory c.args.side c.args.plan.now c.args.faults.now c.args.site.now) z done b) c.new-book.ensures.empty goes) asked
+          (subst (λ z. Goes (load memory c.args.side c.args.sources.plan.now c.args.sources.faults.now c.args.sources.site.now) z done b) c.new-book.ensures.empty goes) asked
           (shown_is b'.shown (row_shown c.plan_shown-shown.result) (verdict_model a.verdict) c.ask.new.row.marks v-is r-is c.plan_shown-shown.ensures)
-          (subst (λ x. Reported c.args.plan.now c.args.faults.now c.args.site.now x c.plan_shown-shown.result c.args.buffer.now c.report.new.buffer c.report.result) c.is_coherent.ensures c.report.ensures);
-      fits = reported_fits c.args.plan.now c.args.faults.now c.args.site.now c.is_coherent.result c.plan_shown-shown.result c.args.buffer.now c.report.new.buffer c.report.result c.report.ensures;
+          (subst (λ x. Reported c.args.sources.plan.now c.args.sources.faults.now c.args.sources.site.now x c.plan_shown-shown.result c.args.buffer.now c.report.new.buffer c.report.result) c.is_coherent.ensures c.report.ensures);
+      fits = reported_fits c.args.sources.plan.now c.args.sources.faults.now c.args.sources.site.now c.is_coherent.result c.plan_shown-shown.result c.args.buffer.now c.report.new.buffer c.report.result c.report.ensures;
     }

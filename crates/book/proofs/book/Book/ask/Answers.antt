@@ -1,8 +1,6 @@
-use Rattle.std.proofs.Common.{◌≡◌, sym, refl, ap, ◌∙◌, subst}
+use Rattle.std.proofs.Common.{sym, refl, ap, ◌∙◌, subst}
 use Rattle.std.proofs.lemmas.Bool.Decides.{not_from_Decides}
-use Rattle.loading.specs.Sided.{side_of}
 use Rattle.programs.specs.Programs.{rules_of}
-use Rattle.runs.specs.Book as runs
 use Rattle.runs.specs.Book.{Goes, ask, refused, nothing_loaded, too_many_heads, ask_unloaded, ask_too_many, told, new_book}
 use Rattle.runs.proofs.Keeping.{some_is}
 use Rattle.book.specs.Answers.{verdict_model, coherence_model}
@@ -30,7 +28,7 @@ returns-then-has_more_heads g c =
     let o = c.in-Some.open in
     record {
       goes = at_open (λ b. Goes (ask f) b (refused too_many_heads) (open_book o)) c.args.self.now.open o (sym c.take.ensures.value ∙ c.in-Some.is)
-          (ask_too_many (texts_from o.loaded) refl (subst (λ n. Over n (rules_of o.loaded.plan) (rules_of o.loaded.faults)) c.most_heads.ensures (c.has_more_heads.ensures.0 c.if-has_more_heads.true)));
+          (ask_too_many (texts_from o.loaded) refl (subst (λ n. Over n (rules_of o.loaded.plan) (rules_of o.loaded.faults)) (c.MOST.ensures ∙ sym (g.met.F.Finder.most_is c.args.finder.now)) (c.has_more_heads.ensures.0 c.if-has_more_heads.true)));
       row = refl;
     }
 
@@ -44,6 +42,6 @@ returns g c =
     let tells = c.told-told.ensures in
     record {
       goes = at_open (λ b. Goes (ask f) b (told (verdict_model a.verdict) (coherence_model a.coherence) a.pairs a.struck c.row.result.marks) (open_book o')) c.args.self.now.open o (sym c.take.ensures.value ∙ c.in-Some.is)
-          (told_goes f t (open_book o) (open_book o') refl (λ over. not_from_Decides c.has_more_heads.result c.has_more_heads.ensures c.if-has_more_heads.false (subst (λ n. Over n (rules_of o.loaded.plan) (rules_of o.loaded.faults)) (sym c.most_heads.ensures) over)) c.asked-open.ensures (readable o.loaded) o.kept _ _ _ _ _ tells.verdict (tells.coherence ∙ ap (λ s. coherence_by s (some_winner (open_book o').shown (open_book o').struck)) (ap (λ x. x.side) (some_is c.asked-open.ensures.texts))) tells.pairs tells.struck c.row.ensures);
+          (told_goes f t (open_book o) (open_book o') refl (λ over. not_from_Decides c.has_more_heads.result c.has_more_heads.ensures c.if-has_more_heads.false (subst (λ n. Over n (rules_of o.loaded.plan) (rules_of o.loaded.faults)) (g.met.F.Finder.most_is c.args.finder.now ∙ sym c.MOST.ensures) over)) c.asked-open.ensures (readable o.loaded) o.kept _ _ _ _ _ tells.verdict (tells.coherence ∙ ap (λ s. coherence_by s (some_winner (open_book o').shown (open_book o').struck)) (ap (λ x. x.side) (some_is c.asked-open.ensures.texts))) tells.pairs tells.struck c.row.ensures);
       row = tt;
     }

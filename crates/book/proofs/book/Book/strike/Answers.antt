@@ -1,4 +1,4 @@
-use Rattle.std.proofs.Common.{◌≡◌, length, vec_items, sym, refl, ap, ◌∙◌, subst, arith}
+use Rattle.std.proofs.Common.{vec_items, sym, refl, ap, ◌∙◌, subst, arith}
 use lib.ListN.{length-map}
 use Rattle.closure.specs.declared.row.Row as code
 use Rattle.runs.specs.Book.{Goes, strike, refused, done, nothing_loaded, none_shown, struck_full, strikes, strike_unloaded, strike_none, strike_full, new_book}

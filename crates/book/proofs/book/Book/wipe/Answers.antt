@@ -1,4 +1,4 @@
-use Rattle.std.proofs.Common.{◌≡◌, sym, refl, ◌∙◌, subst}
+use Rattle.std.proofs.Common.{sym, ◌∙◌, subst}
 use Rattle.runs.specs.Book.{Goes, wipe, done, wipes, new_book}
 use Rattle.book.specs.Opened.{open_book}
 use Rattle.book.specs.Books.{open_or_new}

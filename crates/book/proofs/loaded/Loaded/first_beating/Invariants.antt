@@ -1,4 +1,4 @@
-use Rattle.std.proofs.Common.{ℕ, length}
+use Rattle.std.proofs.Common.{length}
 use Rattle.game.specs.Game.{Beats}
 use Rattle.finders.specs.Meanings.{Listed}
 use Rattle.finders.proofs.Resting.{rest_of}

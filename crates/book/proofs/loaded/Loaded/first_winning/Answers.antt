@@ -1,8 +1,6 @@
-use Rattle.std.proofs.Common.{◌≡◌, true, false, List, [], ◌∷◌, vec_items, sym, refl, ◌∙◌, subst}
+use Rattle.std.proofs.Common.{true, false, [], ◌∷◌, sym, ◌∙◌, subst}
 use Rattle.game.specs.Sets.{Row}
-use Rattle.game.specs.AnswerSets.{AnswerSet}
 use Rattle.game.specs.Game.{nothing}
-use Rattle.game.specs.Heads.{Lists}
 use Rattle.game.proofs.Listing.{lists_differ}
 use Rattle.finders.specs.Meanings.{Listed, Rest, Taken}
 use Rattle.finders.proofs.Resting.{entry_listed}
@@ -21,119 +19,57 @@ following-requires g c =
 pub first_beating-requires : goal.first_beating-requires
 first_beating-requires g c =
     let m = g.F.Finder.meaning c.args.finder.now in
-    let t = texts_from c.args.self.now in
-    let plans = rules_of c.args.self.now.plan in
-    let xs = m.order plans nothing in
-    let struck = rows c.args.struck.now in
-    let replies : Row → List Row = λ x. m.order (rules_of c.args.self.now.faults) x in
-    let lists : Lists xs (AnswerSet plans nothing) = m.law plans nothing c.requires.0.plans in
-    let at = on_from c.loop-plan.earlier in
-    let s = pairs (vec_items c.loop-plan.sheet) in
-    let s₀ = pairs (vec_items c.args.sheet.now) in
-    let x = c.in-Some.plan.marks in
+    let lists = m.law (rules_of c.args.self.now.plan) nothing c.requires.0.plans in
     let (ys, found) = c.in-Some.ensures in
-    let rest = subst (λ (n : Row). Rest (m.order plans n) at (x ∷ ys)) c.clear-nothing.ensures found in
-    c.requires.0.faults x (lists.only x (entry_listed xs (lists_differ lists) at x ys rest))
+    let rest = subst (λ (n : Row). Rest (m.order (rules_of c.args.self.now.plan) n) (on_from c.loop-plan.earlier) (c.in-Some.plan.marks ∷ ys)) c.clear-nothing.ensures found in
+    c.requires.0.faults _ (lists.only _ (entry_listed _ (lists_differ lists) _ _ ys rest))
 
 pub returns-in-None : goal.returns-in-None
 returns-in-None g c =
     let m = g.F.Finder.meaning c.args.finder.now in
-    let t = texts_from c.args.self.now in
-    let plans = rules_of c.args.self.now.plan in
-    let xs = m.order plans nothing in
-    let struck = rows c.args.struck.now in
-    let replies : Row → List Row = λ x. m.order (rules_of c.args.self.now.faults) x in
-    let lists : Lists xs (AnswerSet plans nothing) = m.law plans nothing c.requires.0.plans in
-    let at = on_from c.loop-plan.earlier in
-    let s = pairs (vec_items c.loop-plan.sheet) in
-    let s₀ = pairs (vec_items c.args.sheet.now) in
-    let x = c.in-Some.plan.marks in
+    let lists = m.law (rules_of c.args.self.now.plan) nothing c.requires.0.plans in
     let (ys, found) = c.in-Some.ensures in
-    let rest = subst (λ (n : Row). Rest (m.order plans n) at (x ∷ ys)) c.clear-nothing.ensures found in
-    let passed = subst (λ ps. Passed t struck (pairs ps) x false) c.as_slice.ensures.value c.if-not-passes_over.ensures in
-    (wins t struck replies xs s₀ (lists_differ lists) at x ys rest s c.loop-plan.invariant.1 passed.0 passed.1 c.in-None.ensures, c.loop-plan.invariant.2)
+    let rest = subst (λ (n : Row). Rest (m.order (rules_of c.args.self.now.plan) n) (on_from c.loop-plan.earlier) (c.in-Some.plan.marks ∷ ys)) c.clear-nothing.ensures found in
+    let passed = subst (λ ps. Passed (texts_from c.args.self.now) (rows c.args.struck.now) (pairs ps) c.in-Some.plan.marks false) c.as_slice.ensures.value c.if-not-passes_over.ensures in
+    (wins _ _ _ _ _ (lists_differ lists) _ _ ys rest _ c.loop-plan.invariant.1 passed.0 passed.1 c.in-None.ensures, c.loop-plan.invariant.2)
 
 pub loop-plan-smaller-in-Some-first_beating : goal.loop-plan-smaller-in-Some-first_beating
 loop-plan-smaller-in-Some-first_beating g c =
     let m = g.F.Finder.meaning c.args.finder.now in
-    let t = texts_from c.args.self.now in
-    let plans = rules_of c.args.self.now.plan in
-    let xs = m.order plans nothing in
-    let struck = rows c.args.struck.now in
-    let replies : Row → List Row = λ x. m.order (rules_of c.args.self.now.faults) x in
-    let lists : Lists xs (AnswerSet plans nothing) = m.law plans nothing c.requires.0.plans in
-    let at = on_from c.loop-plan.earlier in
-    let s = pairs (vec_items c.loop-plan.sheet) in
-    let s₀ = pairs (vec_items c.args.sheet.now) in
-    let x = c.in-Some.plan.marks in
+    let lists = m.law (rules_of c.args.self.now.plan) nothing c.requires.0.plans in
     let (ys, found) = c.in-Some.ensures in
-    let rest = subst (λ (n : Row). Rest (m.order plans n) at (x ∷ ys)) c.clear-nothing.ensures found in
-    fewer t struck replies xs s₀ (lists_differ lists) at x ys rest s c.loop-plan.invariant.1
+    let rest = subst (λ (n : Row). Rest (m.order (rules_of c.args.self.now.plan) n) (on_from c.loop-plan.earlier) (c.in-Some.plan.marks ∷ ys)) c.clear-nothing.ensures found in
+    fewer _ _ _ _ _ (lists_differ lists) _ _ ys rest _ c.loop-plan.invariant.1
 
 pub loop-plan-preserved-in-Some-first_beating : goal.loop-plan-preserved-in-Some-first_beating
 loop-plan-preserved-in-Some-first_beating g c =
     let m = g.F.Finder.meaning c.args.finder.now in
-    let t = texts_from c.args.self.now in
-    let plans = rules_of c.args.self.now.plan in
-    let xs = m.order plans nothing in
-    let struck = rows c.args.struck.now in
-    let replies : Row → List Row = λ x. m.order (rules_of c.args.self.now.faults) x in
-    let lists : Lists xs (AnswerSet plans nothing) = m.law plans nothing c.requires.0.plans in
-    let at = on_from c.loop-plan.earlier in
-    let s = pairs (vec_items c.loop-plan.sheet) in
-    let s₀ = pairs (vec_items c.args.sheet.now) in
-    let x = c.in-Some.plan.marks in
+    let lists = m.law (rules_of c.args.self.now.plan) nothing c.requires.0.plans in
     let (ys, found) = c.in-Some.ensures in
-    let rest = subst (λ (n : Row). Rest (m.order plans n) at (x ∷ ys)) c.clear-nothing.ensures found in
-    let passed = subst (λ ps. Passed t struck (pairs ps) x false) c.as_slice.ensures.value c.if-not-passes_over.ensures in
-    (entry_listed xs (lists_differ lists) at x ys rest, notes t struck replies xs s₀ (lists_differ lists) at x ys rest s c.loop-plan.invariant.1 passed.0 passed.1 c.in-Some-first_beating.reply.marks c.in-Some-first_beating.ensures (pairs (vec_items c.note.new.sheet)) c.note.ensures.0, c.note.ensures.1 ∙ c.loop-plan.invariant.2)
+    let rest = subst (λ (n : Row). Rest (m.order (rules_of c.args.self.now.plan) n) (on_from c.loop-plan.earlier) (c.in-Some.plan.marks ∷ ys)) c.clear-nothing.ensures found in
+    let passed = subst (λ ps. Passed (texts_from c.args.self.now) (rows c.args.struck.now) (pairs ps) c.in-Some.plan.marks false) c.as_slice.ensures.value c.if-not-passes_over.ensures in
+    (entry_listed _ (lists_differ lists) _ _ ys rest, notes _ _ _ _ _ (lists_differ lists) _ _ ys rest _ c.loop-plan.invariant.1 passed.0 passed.1 c.in-Some-first_beating.reply.marks c.in-Some-first_beating.ensures _ c.note.ensures.0, c.note.ensures.1 ∙ c.loop-plan.invariant.2)
 
 pub loop-plan-smaller : goal.loop-plan-smaller
 loop-plan-smaller g c =
     let m = g.F.Finder.meaning c.args.finder.now in
-    let t = texts_from c.args.self.now in
-    let plans = rules_of c.args.self.now.plan in
-    let xs = m.order plans nothing in
-    let struck = rows c.args.struck.now in
-    let replies : Row → List Row = λ x. m.order (rules_of c.args.self.now.faults) x in
-    let lists : Lists xs (AnswerSet plans nothing) = m.law plans nothing c.requires.0.plans in
-    let at = on_from c.loop-plan.earlier in
-    let s = pairs (vec_items c.loop-plan.sheet) in
-    let s₀ = pairs (vec_items c.args.sheet.now) in
-    let x = c.in-Some.plan.marks in
+    let lists = m.law (rules_of c.args.self.now.plan) nothing c.requires.0.plans in
     let (ys, found) = c.in-Some.ensures in
-    let rest = subst (λ (n : Row). Rest (m.order plans n) at (x ∷ ys)) c.clear-nothing.ensures found in
-    fewer t struck replies xs s₀ (lists_differ lists) at x ys rest s c.loop-plan.invariant.1
+    let rest = subst (λ (n : Row). Rest (m.order (rules_of c.args.self.now.plan) n) (on_from c.loop-plan.earlier) (c.in-Some.plan.marks ∷ ys)) c.clear-nothing.ensures found in
+    fewer _ _ _ _ _ (lists_differ lists) _ _ ys rest _ c.loop-plan.invariant.1
 
 pub loop-plan-preserved : goal.loop-plan-preserved
 loop-plan-preserved g c =
     let m = g.F.Finder.meaning c.args.finder.now in
-    let t = texts_from c.args.self.now in
-    let plans = rules_of c.args.self.now.plan in
-    let xs = m.order plans nothing in
-    let struck = rows c.args.struck.now in
-    let replies : Row → List Row = λ x. m.order (rules_of c.args.self.now.faults) x in
-    let lists : Lists xs (AnswerSet plans nothing) = m.law plans nothing c.requires.0.plans in
-    let at = on_from c.loop-plan.earlier in
-    let s = pairs (vec_items c.loop-plan.sheet) in
-    let s₀ = pairs (vec_items c.args.sheet.now) in
-    let x = c.in-Some.plan.marks in
+    let lists = m.law (rules_of c.args.self.now.plan) nothing c.requires.0.plans in
     let (ys, found) = c.in-Some.ensures in
-    let rest = subst (λ (n : Row). Rest (m.order plans n) at (x ∷ ys)) c.clear-nothing.ensures found in
-    let passed = subst (λ ps. Passed t struck (pairs ps) x true) c.as_slice.ensures.value c.if-not-passes_over.ensures in
-    (entry_listed xs (lists_differ lists) at x ys rest, passes t struck replies xs s₀ (lists_differ lists) at x ys rest s c.loop-plan.invariant.1 passed, c.loop-plan.invariant.2)
+    let rest = subst (λ (n : Row). Rest (m.order (rules_of c.args.self.now.plan) n) (on_from c.loop-plan.earlier) (c.in-Some.plan.marks ∷ ys)) c.clear-nothing.ensures found in
+    let passed = subst (λ ps. Passed (texts_from c.args.self.now) (rows c.args.struck.now) (pairs ps) c.in-Some.plan.marks true) c.as_slice.ensures.value c.if-not-passes_over.ensures in
+    (entry_listed _ (lists_differ lists) _ _ ys rest, passes _ _ _ _ _ (lists_differ lists) _ _ ys rest _ c.loop-plan.invariant.1 passed, c.loop-plan.invariant.2)
 
 pub returns : goal.returns
 returns g c =
     let m = g.F.Finder.meaning c.args.finder.now in
-    let t = texts_from c.args.self.now in
-    let plans = rules_of c.args.self.now.plan in
-    let xs = m.order plans nothing in
-    let struck = rows c.args.struck.now in
-    let replies : Row → List Row = λ x. m.order (rules_of c.args.self.now.faults) x in
-    let lists : Lists xs (AnswerSet plans nothing) = m.law plans nothing c.requires.0.plans in
-    let at = on_from c.loop-plan.earlier in
-    let s = pairs (vec_items c.loop-plan.sheet) in
-    let s₀ = pairs (vec_items c.args.sheet.now) in
-    let rest = subst (λ (n : Row). Rest (m.order plans n) at []) c.clear-nothing.ensures c.in_default.ensures in
-    (asked_out t struck replies xs s₀ at s (lists_differ lists) rest c.loop-plan.invariant.1, c.loop-plan.invariant.2)
+    let lists = m.law (rules_of c.args.self.now.plan) nothing c.requires.0.plans in
+    let rest = subst (λ (n : Row). Rest (m.order (rules_of c.args.self.now.plan) n) (on_from c.loop-plan.earlier) []) c.clear-nothing.ensures c.in_default.ensures in
+    (asked_out _ _ _ _ _ _ _ (lists_differ lists) rest c.loop-plan.invariant.1, c.loop-plan.invariant.2)

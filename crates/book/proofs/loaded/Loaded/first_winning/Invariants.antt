@@ -1,4 +1,4 @@
-use Rattle.std.proofs.Common.{◌≡◌, ℕ, length, vec_items, vec_capacity}
+use Rattle.std.proofs.Common.{◌≡◌, length, vec_items, vec_capacity}
 use Rattle.game.specs.Game.{nothing}
 use Rattle.finders.specs.Meanings.{Listed}
 use Rattle.finders.proofs.Resting.{rest_of}

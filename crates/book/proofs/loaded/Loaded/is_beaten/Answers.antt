@@ -1,20 +1,14 @@
-use Rattle.std.proofs.Common.{◌≡◌, length, refl, arith}
-use Rattle.std.proofs.lemmas.Bool.{false≢true}
+use Rattle.std.proofs.Common.{rules}
 use Rattle.std.proofs.lemmas.Bool.Decides.{not_from_Decides}
+use Rattle.std.proofs.lemmas.Iterator.{YieldsList-from_slice, cases_from_any}
 use Rattle.game.specs.Game.{Beats}
 use Rattle.runs.specs.Book as runs
 use Rattle.book.specs.Models.{texts_from, pair_of}
-use Rattle.book.proofs.Scanning.{found_at, none_found, none_more}
+use Rattle.book.proofs.Scanning.{found_decides}
 use Rattle.book.proofs.loaded.Loaded.is_beaten.Goals as goal
-
-pub returns-then-beats : goal.returns-then-beats
-returns-then-beats c =
-    (λ _. found_at pair_of (λ (q : runs.Pair). Beats (texts_from c.args.self.now) c.args.plan.now.marks q.reply) c.args.sheet.now c.loop-pair.pair-index c.pair-item.result c.loop-pair-test.true c.pair-item.is (c.beats.ensures.0 c.if-beats.true), λ _. refl)
-
-pub loop-pair-preserved : goal.loop-pair-preserved
-loop-pair-preserved c =
-    none_more pair_of (λ (q : runs.Pair). Beats (texts_from c.args.self.now) c.args.plan.now.marks q.reply) c.args.sheet.now c.loop-pair.pair-index c.pair-item.result c.loop-pair-test.true c.pair-item.is (not_from_Decides c.beats.result c.beats.ensures c.if-beats.false) c.loop-pair.invariant
 
 pub returns : goal.returns
 returns c =
-    (λ e. absurd (false≢true e), λ (q, has, beats). absurd (none_found pair_of (λ (q : runs.Pair). Beats (texts_from c.args.self.now) c.args.plan.now.marks q.reply) c.args.sheet.now (λ k d less. c.loop-pair.invariant k d (omega (arith, c.loop-pair-test.false))) q has beats))
+    let beats = λ (q : runs.Pair). Beats (texts_from c.args.self.now) c.args.plan.now.marks q.reply in
+    found_decides pair_of beats c.any.result c.args.sheet.now
+    (cases_from_any _ _ c.any.result (λ p. beats (pair_of p)) (λ p. beats (pair_of p) → ⊥) c.any.ensures.ran (YieldsList-from_slice c.args.sheet.now cc) (λ x q k. search rules) (λ x q k. search (rules, not_from_Decides)))

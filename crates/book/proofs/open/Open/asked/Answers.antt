@@ -1,7 +1,6 @@
-use Rattle.std.proofs.Common.{◌≡◌, vec_items, vec_capacity, sym, refl, ap, ◌∙◌, subst, arith}
+use Rattle.std.proofs.Common.{vec_items, refl, subst, arith}
 use mathlib.Core.Logic.{∥∥₁_map}
 use Rattle.game.specs.Game.{nothing}
-use Rattle.programs.specs.Programs.{rules_of}
 use Rattle.runs.specs.Book.{Asked}
 use Rattle.book.specs.Models.{texts_from, rows, pairs, row_shown, book_from}
 use Rattle.book.specs.Opened.{open_book}

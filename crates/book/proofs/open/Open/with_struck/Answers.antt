@@ -1,4 +1,4 @@
-use Rattle.std.proofs.Common.{◌≡◌, sym, subst, arith}
+use Rattle.std.proofs.Common.{sym, subst, arith}
 use mathlib.Core.Logic.{∥∥₁_map}
 use Rattle.runs.specs.Runs.{Keeps}
 use Rattle.book.proofs.Calls.{struck_book, strike_keeps}
@@ -9,8 +9,3 @@ invariant_of-result c =
     let o = c.args.self in
     let r = c.args.row in
     record { struck_room = omega (arith, o.struck_room, c.push_reserved.ensures.capacity); sheet_room = o.sheet_room; kept = ∥∥₁_map o.kept (λ keeps. subst Keeps (sym (struck_book o.loaded o.struck c.push_reserved.new.self o.sheet o.shown r c.push_reserved.ensures.items)) (strike_keeps o.loaded o.struck o.sheet o.shown r c.requires.0 c.requires.1 keeps)) }
-
-pub returns : goal.returns
-returns c =
-    let o = c.args.self in
-    struck_book o.loaded o.struck c.push_reserved.new.self o.sheet o.shown c.args.row c.push_reserved.ensures.items
