@@ -1,8 +1,10 @@
 // Calls of a book, with what each should answer.
-use crate::rows::{row_of, stale};
+use crate::rows::stale;
 use book::book::Book;
 use book::told::{Coherence, Told, Verdict};
+use closure::row::Row;
 use finders::finder::Finder;
+use loading::sources::Sources;
 use refusals::fault::Fault;
 use std::alloc::Global;
 use std::process::Abort;
@@ -13,10 +15,15 @@ pub(crate) type Texts = (u8, &'static [u8], &'static [u8], &'static [u8]);
 
 // A new book with these texts loaded.
 pub(crate) fn opened(heap: Global, texts: Texts) -> Result<Book, Fault> {
-    let (side, plan, faults, site) = texts;
     let mut book = Book::new();
-    book.load(heap, side, plan, faults, site)?;
+    load(&mut book, heap, texts)?;
     Ok(book)
+}
+
+pub(crate) fn load(book: &mut Book, heap: Global, texts: Texts) -> Result<(), Fault> {
+    let (side, plan, faults, site) = texts;
+    let sources = Sources { plan, faults, site };
+    book.load(heap, side, sources)
 }
 
 pub(crate) fn shown(coherence: Coherence, pairs: usize, struck: usize) -> Told {
@@ -48,7 +55,7 @@ pub(crate) fn asks<F: Finder<96>>(
     let mut row = stale();
     let told = book.ask(finder, &mut row)?;
     assert_eq!(rt; told, want);
-    assert!(rt; row.same(&row_of(plan)));
+    assert!(rt; row == Row::of(plan));
     Ok(())
 }
 
@@ -64,8 +71,8 @@ pub(crate) fn looks(
     let mut one = stale();
     let mut two = stale();
     book.look(kind, place, &mut one, &mut two)?;
-    assert!(rt; one.same(&row_of(first)));
-    assert!(rt; two.same(&row_of(second)));
+    assert!(rt; one == Row::of(first));
+    assert!(rt; two == Row::of(second));
     Ok(())
 }
 
@@ -73,7 +80,7 @@ pub(crate) fn looks(
 pub(crate) fn ask_cause<F: Finder<96>>(book: &mut Book, finder: &F) -> u8 {
     let mut row = stale();
     match book.ask(finder, &mut row) {
-        Err(refusal) if row.same(&stale()) => refusal.cause(),
+        Err(refusal) if row == stale() => refusal.cause(),
         _ => 0,
     }
 }
@@ -91,7 +98,7 @@ pub(crate) fn look_cause(book: &Book, kind: u8, place: usize) -> u8 {
     let mut one = stale();
     let mut two = stale();
     match book.look(kind, place, &mut one, &mut two) {
-        Err(refusal) if one.same(&stale()) && two.same(&stale()) => refusal.cause(),
+        Err(refusal) if one == stale() && two == stale() => refusal.cause(),
         _ => 0,
     }
 }

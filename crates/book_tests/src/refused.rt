@@ -1,5 +1,7 @@
 // What the calls refuse, with the rows and the book left as they were.
-use crate::calls::{ask_cause, asks, look_cause, looks, none_shown, opened, shown, strike_cause};
+use crate::calls::{
+    ask_cause, asks, load, look_cause, looks, none_shown, opened, shown, strike_cause,
+};
 use crate::games::alarm;
 use crate::rows::NONE;
 use book::book::Book;
@@ -37,7 +39,7 @@ fn nothing_loaded(rt: HostRuntime) {
 
 // The cause of a refused load of a side and a plan text alone; 0 where it is done.
 fn load_cause(book: &mut Book, heap: Global, side: u8, plan: &'static [u8]) -> u8 {
-    match book.load(heap, side, plan, b"", b"") {
+    match load(book, heap, (side, plan, b"", b"")) {
         Err(fault) => fault.cause(),
         Ok(()) => 0,
     }

@@ -1,5 +1,5 @@
 // What a load and a wipe leave of the book before.
-use crate::calls::{asks, look_cause, looks, none_shown, opened, shown, strike_cause};
+use crate::calls::{asks, load, look_cause, looks, none_shown, opened, shown, strike_cause};
 use crate::games::alarm;
 use crate::rows::NONE;
 use book::book::Book;
@@ -50,12 +50,10 @@ fn wiped(rt: HostRuntime) -> Result<(), Fail> {
 #[test]
 fn loaded_again(rt: HostRuntime) -> Result<(), Fail> {
     let mut book = struck(&rt, rt.alloc())?;
-    let (side, plan, faults, site) = alarm(1);
-    book.load(rt.alloc(), side, plan, faults, site)?;
+    load(&mut book, rt.alloc(), alarm(1))?;
     blank(&rt, &mut book);
     first_ask(&rt, &mut book)?;
-    let (side, plan, faults, site) = alarm(2);
-    book.load(rt.alloc(), side, plan, faults, site)?;
+    load(&mut book, rt.alloc(), alarm(2))?;
     blank(&rt, &mut book);
     asks(
         &rt,

@@ -2,14 +2,13 @@
 use crate::job::{Job, Line};
 use crate::listing::compare_finders;
 use crate::making::ATOMS;
-use crate::paths::first_break;
 use crate::subset::{SETS, Subset};
 use crate::tally::Tally;
-use crate::textbook::{Clause, all_answers, answers, clauses_of, headed};
+use crate::textbook::Textbook;
 use closure::row::Row;
 use programs::program::Program;
-use programs::rule::{Head, Rule};
-use solving::answer::is_answer_set;
+use programs::rule::Rule;
+use solving::job::Job as Solved;
 use solving::strata::unstratified_rule;
 use solving::stratified::Stratified;
 use std::alloc::{AllocError, Global};
@@ -23,20 +22,15 @@ fn spread_atom(atom: u16, apart: u16) -> u16 {
 }
 
 fn spread_list(heap: Global, atoms: &[u16], apart: u16) -> Result<Vec<u16>, AllocError> {
-    let mut spread = Vec::new(heap);
-    for atom in atoms {
-        spread.push(spread_atom(*atom, apart))?;
-    }
-    Ok(spread)
+    atoms
+        .iter()
+        .map(|atom| spread_atom(*atom, apart))
+        .collect(heap)
 }
 
 fn spread_rule(heap: Global, line: &Line, apart: u16) -> Result<Rule, AllocError> {
-    let head = match line.head {
-        Some(atom) => Head::Atom(spread_atom(atom, apart)),
-        None => Head::None,
-    };
     Ok(Rule {
-        head,
+        head: line.head.map(|atom| spread_atom(atom, apart)),
         plain: spread_list(heap, line.plain.as_slice(), apart)?,
         negated: spread_list(heap, line.negated.as_slice(), apart)?,
     })
@@ -48,32 +42,25 @@ pub(crate) fn program_of<const N: usize>(
     job: &Job,
     apart: u16,
 ) -> Result<Option<Program<N>>, AllocError> {
-    let mut rules = Vec::new(heap);
-    for line in job.lines.as_slice() {
-        rules.push(spread_rule(heap, line, apart)?)?;
-    }
+    let rules = job
+        .lines
+        .iter()
+        .map(|line| -> Result<Rule, AllocError> { spread_rule(heap, line, apart) })
+        .try_collect(heap)?;
     Ok(Program::new(rules))
 }
 
 pub(crate) fn row_of<const N: usize>(set: Subset, apart: u16) -> Row<N> {
     let mut row = Row::clear();
-    for atom in 0..ATOMS {
-        if set.has(atom) {
-            row.put(spread_atom(atom, apart));
-        }
+    for atom in (0..ATOMS).filter(|atom| set.has(*atom)) {
+        row.put(spread_atom(atom, apart));
     }
     row
 }
 
 // Has the row the atoms of the set, and no others?
 pub(crate) fn row_is(row: &Row<96>, set: Subset) -> bool {
-    for atom in 0..96u16 {
-        let wanted = atom % APART == 0 && set.has(atom / APART);
-        if row.has(atom) != wanted {
-            return false;
-        }
-    }
-    true
+    (0..96u16).all(|atom| row.has(atom) == (atom % APART == 0 && set.has(atom / APART)))
 }
 
 // Every set of atoms, at this width: is it an answer set? The row is that of what is given.
@@ -88,44 +75,39 @@ fn compare_sets<const N: usize>(
         tally.agree(false);
         return Ok(());
     };
-    let clauses = clauses_of(heap, job.lines.as_slice())?;
-    let given = Subset::of(job.given.as_slice());
+    let textbook = Textbook::of(heap, job)?;
+    let solved = Solved {
+        program: &program,
+        given: given_row,
+    };
     for number in 0..SETS {
         let set = Subset::numbered(number);
-        let got = is_answer_set(&program, given_row, &row_of(set, apart));
-        tally.set(got, answers(heap, clauses.as_slice(), given, set)?);
+        let got = solved.is_answer_set(&row_of(set, apart));
+        tally.set(got, textbook.answers(set)?);
     }
     Ok(())
 }
 
 // The only one of the sets that holds no given atom.
 fn only_new(sets: &[Subset], given: Subset) -> Option<Subset> {
-    let mut only = None;
-    for set in sets {
-        if set.and(given).is_empty() {
-            if only.is_some() {
-                return None;
-            }
-            only = Some(*set);
-        }
+    let mut new = sets.iter().filter(|set| set.and(given).is_empty());
+    match (new.next(), new.next()) {
+        (Some(only), None) => Some(*only),
+        _ => None,
     }
-    only
 }
 
 // A stratified program: the one answer set of its headed rules without what is given, and whether it holds.
 fn compare_judgement(
-    heap: Global,
-    clauses: &[Clause],
-    given: Subset,
+    textbook: &Textbook,
     stratified: &Stratified<96>,
     tally: &mut Tally,
 ) -> Result<(), AllocError> {
-    let given_row = row_of(given, APART);
-    let found = all_answers(heap, clauses, given)?;
+    let given_row = row_of(textbook.facts, APART);
+    let found = textbook.all_answers()?;
     tally.judgement(stratified.holds(&given_row), !found.is_empty());
-    let headed = headed(heap, clauses)?;
-    let found = all_answers(heap, headed.as_slice(), given)?;
-    match only_new(found.as_slice(), given) {
+    let found = textbook.headed()?.all_answers()?;
+    match only_new(found.as_slice(), textbook.facts) {
         Some(set) => tally.agree(row_is(&stratified.answer(&given_row), set)),
         None => tally.agree(false),
     }
@@ -138,14 +120,13 @@ fn compare_strata(heap: Global, job: &Job, tally: &mut Tally) -> Result<(), Allo
         tally.agree(false);
         return Ok(());
     };
-    let clauses = clauses_of(heap, job.lines.as_slice())?;
-    let given = Subset::of(job.given.as_slice());
-    let want = first_break(clauses.as_slice());
+    let textbook = Textbook::of(heap, job)?;
+    let want = textbook.first_break();
     tally.program(unstratified_rule(&program), want);
     match Stratified::new(program) {
         Ok(stratified) => {
             tally.agree(want.is_none());
-            compare_judgement(heap, clauses.as_slice(), given, &stratified, tally)
+            compare_judgement(&textbook, &stratified, tally)
         }
         Err(place) => {
             tally.agree(want == Some(place));

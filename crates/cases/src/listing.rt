@@ -4,7 +4,7 @@ use crate::job::Job;
 use crate::making::ATOMS;
 use crate::subset::{SETS, Subset};
 use crate::tally::Tally;
-use crate::textbook::{Clause, answers, clauses_of};
+use crate::textbook::Textbook;
 use closure::row::Row;
 use finders::branching::Branching;
 use finders::counting::Counting;
@@ -12,32 +12,14 @@ use finders::finder::{Finder, Found, Refusal};
 use programs::program::Program;
 use std::alloc::{AllocError, Global};
 
-// In which order the sets are gone through.
-#[derive(Clone, Copy)]
-enum Order {
-    // The lowest atom is the lowest digit.
-    Counted,
-    // The lowest atom is the highest digit.
-    Lexical,
-}
-
-// The set at this place of the order.
-fn placed(order: Order, number: u32) -> Subset {
-    match order {
-        Order::Counted => Subset::numbered(number),
-        Order::Lexical => turned_round(number),
-    }
-}
-
+// The set at this place where the lowest atom is the highest digit.
 fn turned_round(number: u32) -> Subset {
     let digits = Subset::numbered(number);
-    let mut set = Subset::numbered(0);
-    for atom in 0..ATOMS {
-        if digits.has(atom) {
-            set = set.or(Subset::one(ATOMS.wrapping_sub(1).wrapping_sub(atom)));
-        }
-    }
-    set
+    Subset::union(
+        (0..ATOMS).filter(|atom| digits.has(*atom)).map(|atom| Subset::one(
+            ATOMS.wrapping_sub(1).wrapping_sub(atom),
+        )),
+    )
 }
 
 // A row that is no set of a job.
@@ -77,30 +59,30 @@ fn is_refused<F: Finder<96>>(
     let mut row = stale();
     match finder.next(program, given, earlier.as_ref(), &mut row) {
         Ok(_) => false,
-        Err(refusal) => refusal.cause() == want.cause() && row.same(&stale()),
+        Err(refusal) => refusal == want && row == stale(),
     }
 }
 
-// Every set in the finder's order: an entry comes next, and no other set is one to go on from.
-fn compare_listing<F: Finder<96>>(
-    heap: Global,
+// Every set in the finder's order, which tells the set at each place: an entry comes next, and no other set is one to go on from.
+fn compare_listing<F: Finder<96>, P: Fn(u32) -> Subset>(
     finder: &F,
-    order: Order,
+    placed: P,
     program: &Program<96>,
-    clauses: &[Clause],
-    given: Subset,
+    textbook: &Textbook,
     tally: &mut Tally,
-) -> Result<(), AllocError> {
-    let given_row = row_of(given, APART);
+) -> Result<(), AllocError>
+    requires { P.IsAlwaysCallable placed }
+{
+    let given_row = row_of(textbook.facts, APART);
     let mut earlier = None;
     for number in 0..SETS {
-        let set = placed(order, number);
-        if answers(heap, clauses, given, set)? {
+        let set = placed(number);
+        let row = row_of(set, APART);
+        if textbook.answers(set)? {
             tally.entry(goes_on(finder, program, &given_row, earlier, Some(set)));
-            earlier = Some(row_of(set, APART));
+            earlier = Some(row);
         } else {
-            let other = Some(row_of(set, APART));
-            tally.agree(is_refused(finder, program, &given_row, other, Refusal::Unlisted));
+            tally.agree(is_refused(finder, program, &given_row, Some(row), Refusal::Unlisted));
         }
     }
     tally.listing(goes_on(finder, program, &given_row, earlier, None));
@@ -109,14 +91,10 @@ fn compare_listing<F: Finder<96>>(
 
 // Is a given atom the head of a rule?
 fn given_is_head(job: &Job) -> bool {
-    for line in job.lines.as_slice() {
-        if let Some(head) = line.head {
-            if Subset::of(job.given.as_slice()).has(head) {
-                return true;
-            }
-        }
-    }
-    false
+    let given = Subset::of(job.given.as_slice());
+    job.lines
+        .iter()
+        .any(|line| line.head.is_some_and(|head| given.has(head)))
 }
 
 // Runs the job through both finders.
@@ -129,31 +107,13 @@ pub(crate) fn compare_finders(
         tally.agree(false);
         return Ok(());
     };
-    let clauses = clauses_of(heap, job.lines.as_slice())?;
-    let clauses = clauses.as_slice();
-    let given = Subset::of(job.given.as_slice());
+    let textbook = Textbook::of(heap, job)?;
     if given_is_head(job) {
-        let row = row_of(given, APART);
+        let row = row_of(textbook.facts, APART);
         tally.refused(is_refused(&Counting, &program, &row, Some(row), Refusal::GivenHead));
         tally.refused(is_refused(&Branching, &program, &row, Some(row), Refusal::GivenHead));
         return Ok(());
     }
-    compare_listing(
-        heap,
-        &Counting,
-        Order::Counted,
-        &program,
-        clauses,
-        given,
-        tally,
-    )?;
-    compare_listing(
-        heap,
-        &Branching,
-        Order::Lexical,
-        &program,
-        clauses,
-        given,
-        tally,
-    )
+    compare_listing(&Counting, Subset::numbered, &program, &textbook, tally)?;
+    compare_listing(&Branching, turned_round, &program, &textbook, tally)
 }

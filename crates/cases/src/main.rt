@@ -36,7 +36,7 @@ fn run_seed(rt: &HostRuntime, seed: u64, tally: &mut Tally) -> anyhow::Result<()
 }
 
 fn run(rt: &HostRuntime) -> anyhow::Result<()> {
-    let mut tally = Tally::new();
+    let mut tally = Tally::default();
     for seed in SEEDS {
         run_seed(rt, seed, &mut tally)?;
     }

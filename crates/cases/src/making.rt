@@ -10,91 +10,87 @@ pub(crate) const ATOMS: u16 = 6;
 // atoms in lower ones, so that it is stratified; plain atoms may go round in a loop.
 #[derive(Drop)]
 struct Layers {
-    layered: bool,
-    of: Vec<u16>,
+    // None where the job is not layered.
+    of: Option<Vec<u16>>,
 }
 
 impl Layers {
     fn some(heap: Global, dice: &mut Dice, atoms: u16) -> Result<Layers, AllocError> {
         let layered = dice.once_in(2);
-        let mut of = Vec::new(heap);
-        for _ in 0..atoms {
-            of.push(dice.below(3))?;
-        }
-        Ok(Layers { layered, of })
+        let of = (0..atoms).map(|_| dice.below(3)).collect(heap)?;
+        Ok(Layers {
+            of: layered.then_some(of),
+        })
     }
 
     // May an atom stand in the body of a rule for a head so many layers above it?
     fn allow(&self, atom: u16, head: Option<u16>, above: u16) -> bool {
-        match head {
-            Some(head) if self.layered => self.layer(atom).saturating_add(above)
-                <= self.layer(head),
+        match (head, &self.of) {
+            (Some(head), Some(of)) => layer(of.as_slice(), atom).saturating_add(above)
+                <= layer(of.as_slice(), head),
             _ => true,
         }
     }
-
-    fn layer(&self, atom: u16) -> u16 {
-        self.of.get(usize::from(atom)).copied().unwrap_or(0)
-    }
 }
 
-// Up to two of the atoms below the limit that are allowed, with repeats.
-fn some_atoms(
+fn layer(of: &[u16], atom: u16) -> u16 {
+    of.get(usize::from(atom)).copied().unwrap_or(0)
+}
+
+// Makes the parts of a job over the atoms below a limit.
+#[derive(Drop)]
+struct Maker<'a> {
     heap: Global,
-    dice: &mut Dice,
-    layers: &Layers,
+    dice: &'a mut Dice,
+    layers: Layers,
     atoms: u16,
-    head: Option<u16>,
-    above: u16,
-) -> Result<Vec<u16>, AllocError> {
-    let mut body = Vec::new(heap);
-    for _ in 0..dice.below(3) {
-        let atom = dice.some_atom(atoms);
-        if layers.allow(atom, head, above) {
-            body.push(atom)?;
-        }
-    }
-    Ok(body)
 }
 
-// A rule over the atoms below the limit; once in six times it is a constraint.
-fn some_line(
-    heap: Global,
-    dice: &mut Dice,
-    layers: &Layers,
-    atoms: u16,
-) -> Result<Line, AllocError> {
-    let head = if dice.once_in(6) {
-        None
-    } else {
-        Some(dice.some_atom(atoms))
-    };
-    Ok(Line {
-        head,
-        plain: some_atoms(heap, dice, layers, atoms, head, 0)?,
-        negated: some_atoms(heap, dice, layers, atoms, head, 1)?,
-    })
-}
-
-// Each atom below the limit, once in four times.
-fn given_atoms(heap: Global, dice: &mut Dice, atoms: u16) -> Result<Vec<u16>, AllocError> {
-    let mut given = Vec::new(heap);
-    for atom in 0..atoms {
-        if dice.once_in(4) {
-            given.push(atom)?;
-        }
+impl Maker<'_> {
+    // Up to two of the atoms that are allowed, with repeats.
+    fn some_atoms(&mut self, head: Option<u16>, above: u16) -> Result<Vec<u16>, AllocError> {
+        (0..self.dice.below(3))
+            .map(|_| self.dice.some_atom(self.atoms))
+            .filter(|atom| self.layers.allow(*atom, head, above))
+            .collect(self.heap)
     }
-    Ok(given)
+
+    // A rule; once in six times it is a constraint.
+    fn some_line(&mut self) -> Result<Line, AllocError> {
+        let head = if self.dice.once_in(6) {
+            None
+        } else {
+            Some(self.dice.some_atom(self.atoms))
+        };
+        Ok(Line {
+            head,
+            plain: self.some_atoms(head, 0)?,
+            negated: self.some_atoms(head, 1)?,
+        })
+    }
+
+    // Each atom, once in four times.
+    fn given_atoms(&mut self) -> Result<Vec<u16>, AllocError> {
+        (0..self.atoms)
+            .filter(|_| self.dice.once_in(4))
+            .collect(self.heap)
+    }
 }
 
 // A job of up to eleven rules over one to six atoms.
 pub(crate) fn some_job(heap: Global, dice: &mut Dice) -> Result<Job, AllocError> {
     let atoms = 1 + dice.below(ATOMS);
     let layers = Layers::some(heap, dice, atoms)?;
-    let mut lines = Vec::new(heap);
-    for _ in 0..dice.below(12) {
-        lines.push(some_line(heap, dice, &layers, atoms)?)?;
-    }
-    let given = given_atoms(heap, dice, atoms)?;
+    let mut maker = Maker {
+        heap,
+        dice,
+        layers,
+        atoms,
+    };
+    let count = maker.dice.below(12);
+    let lines = (0..count)
+        .map(|_| -> Result<Line, AllocError> { maker.some_line() })
+        .try_collect(heap)?;
+    let given = maker.given_atoms()?;
     Ok(Job { lines, given })
 }

@@ -12,18 +12,15 @@ struct Paths {
 impl Paths {
     // What the atom reaches.
     fn from(&self, atom: u16) -> Subset {
-        let i = usize::from(atom);
-        if i < 6 {
-            self.to[i]
-        } else {
-            Subset::numbered(0)
-        }
+        self.to
+            .get(usize::from(atom))
+            .copied()
+            .unwrap_or(Subset::numbered(0))
     }
 
     fn add(&mut self, atom: u16, more: Subset) {
-        let i = usize::from(atom);
-        if i < 6 {
-            self.to[i] = self.to[i].or(more);
+        if let Some(to) = self.to.get_mut(usize::from(atom)) {
+            *to = to.or(more);
         }
     }
 
@@ -53,15 +50,13 @@ impl Paths {
 
 // The heads of the clauses with this atom in the body.
 fn heads_over(clauses: &[Clause], atom: u16) -> Subset {
-    let mut set = Subset::numbered(0);
-    for clause in clauses {
-        if let Some(head) = clause.head {
-            if clause.plain.or(clause.negated).has(atom) {
-                set = set.or(Subset::one(head));
-            }
-        }
-    }
-    set
+    Subset::union(
+        clauses
+            .iter()
+            .filter(|clause| clause.plain.or(clause.negated).has(atom))
+            .filter_map(|clause| clause.head)
+            .map(Subset::one),
+    )
 }
 
 // The place of the first clause with a negated atom that its head reaches.
@@ -70,12 +65,7 @@ pub(crate) fn first_break(clauses: &[Clause]) -> Option<usize> {
     for middle in 0..ATOMS {
         paths = paths.through(middle);
     }
-    for (i, clause) in clauses.iter().enumerate() {
-        if let Some(head) = clause.head {
-            if !paths.from(head).and(clause.negated).is_empty() {
-                return Some(i);
-            }
-        }
-    }
-    None
+    clauses.iter().position(|clause| clause
+        .head
+        .is_some_and(|head| !paths.from(head).and(clause.negated).is_empty()))
 }

@@ -1,5 +1,7 @@
 // Sets of the atoms 0 to 5 as numbers: atom k is in the set where bit k stands.
 
+ghost use Rattle.std.specs.Iterator.{IsFinite};
+
 // There are so many sets, numbered from 0.
 pub(crate) const SETS: u32 = 64;
 
@@ -12,11 +14,14 @@ impl Subset {
     }
 
     pub(crate) fn of(atoms: &[u16]) -> Subset {
-        let mut set = Subset(0);
-        for atom in atoms {
-            set = set.or(Subset::one(*atom));
-        }
-        set
+        Subset::union(atoms.iter().map(|atom| Subset::one(*atom)))
+    }
+
+    // All the atoms of some sets.
+    pub(crate) fn union<I: Iterator<Item = Subset> + Drop>(sets: I) -> Subset
+        requires { I.can_next sets × IsFinite (I.remaining sets) }
+    {
+        sets.fold(Subset(0), Subset::or)
     }
 
     pub(crate) fn one(atom: u16) -> Subset {

@@ -1,7 +1,7 @@
 // What was compared, and how often the two solvers differ.
 use std::fmt;
 
-#[derive(Clone, Copy)]
+#[derive(Clone, Copy, Default)]
 pub(crate) struct Tally {
     jobs: u64,
     sets: u64,
@@ -22,22 +22,6 @@ fn count(counter: &mut u64, so: bool) {
 }
 
 impl Tally {
-    pub(crate) fn new() -> Tally {
-        Tally {
-            jobs: 0,
-            sets: 0,
-            answer_sets: 0,
-            programs: 0,
-            stratified: 0,
-            judgements: 0,
-            holding: 0,
-            listings: 0,
-            entries: 0,
-            refusals: 0,
-            differences: 0,
-        }
-    }
-
     pub(crate) fn job(&mut self) {
         count(&mut self.jobs, true);
     }

@@ -1,5 +1,6 @@
 // A second solver, by the definitions of the textbooks: it tries all sets.
-use crate::job::Line;
+use crate::job::Job;
+use crate::paths::first_break;
 use crate::subset::{SETS, Subset};
 use std::alloc::{AllocError, Global};
 
@@ -10,114 +11,119 @@ pub(crate) struct Clause {
     pub(crate) negated: Subset,
 }
 
-pub(crate) fn clauses_of(heap: Global, lines: &[Line]) -> Result<Vec<Clause>, AllocError> {
-    let mut clauses = Vec::new(heap);
-    for line in lines {
-        clauses.push(Clause {
-            head: line.head,
-            plain: Subset::of(line.plain.as_slice()),
-            negated: Subset::of(line.negated.as_slice()),
-        })?;
-    }
-    Ok(clauses)
-}
-
-// The clauses that have a head.
-pub(crate) fn headed(heap: Global, clauses: &[Clause]) -> Result<Vec<Clause>, AllocError> {
-    let mut kept = Vec::new(heap);
-    for clause in clauses {
-        if clause.head.is_some() {
-            kept.push(*clause)?;
-        }
-    }
-    Ok(kept)
-}
-
 // The reduct for the set: clauses with a negated atom in it go, the others lose their negated atoms.
 fn reduct(heap: Global, clauses: &[Clause], set: Subset) -> Result<Vec<Clause>, AllocError> {
-    let mut kept = Vec::new(heap);
-    for clause in clauses {
-        if clause.negated.and(set).is_empty() {
-            kept.push(Clause {
-                head: clause.head,
-                plain: clause.plain,
-                negated: Subset::numbered(0),
-            })?;
-        }
-    }
-    Ok(kept)
+    clauses
+        .iter()
+        .filter(|clause| clause.negated.and(set).is_empty())
+        .map(|clause| Clause {
+            head: clause.head,
+            plain: clause.plain,
+            negated: Subset::numbered(0),
+        })
+        .collect(heap)
 }
 
 // Is the head of each clause with a head in the set where its plain atoms are?
 fn obeys(positive: &[Clause], set: Subset) -> bool {
-    for clause in positive {
-        if let Some(head) = clause.head {
-            if clause.plain.within(set) && !set.has(head) {
-                return false;
-            }
-        }
-    }
-    true
+    positive
+        .iter()
+        .filter(|clause| clause.plain.within(set))
+        .filter_map(|clause| clause.head)
+        .all(|head| set.has(head))
 }
 
 // Has no clause without a head all its plain atoms in the set?
 fn allows(positive: &[Clause], set: Subset) -> bool {
-    for clause in positive {
-        if clause.head.is_none() && clause.plain.within(set) {
-            return false;
-        }
-    }
-    true
+    !positive
+        .iter()
+        .any(|clause| clause.head.is_none() && clause.plain.within(set))
 }
 
 // What is in every set that has the facts and obeys the clauses.
 fn smallest(positive: &[Clause], facts: Subset) -> Subset {
-    let mut common = Subset::numbered(SETS - 1);
-    for number in 0..SETS {
-        let set = Subset::numbered(number);
-        if facts.within(set) && obeys(positive, set) {
-            common = common.and(set);
-        }
-    }
-    common
+    (0..SETS)
+        .map(Subset::numbered)
+        .filter(|set| facts.within(*set) && obeys(positive, *set))
+        .fold(Subset::numbered(SETS - 1), Subset::and)
 }
 
 // The atoms that are heads.
 fn heads(clauses: &[Clause]) -> Subset {
-    let mut set = Subset::numbered(0);
-    for clause in clauses {
-        if let Some(head) = clause.head {
-            set = set.or(Subset::one(head));
-        }
-    }
-    set
+    Subset::union(
+        clauses
+            .iter()
+            .filter_map(|clause| clause.head)
+            .map(Subset::one),
+    )
 }
 
-// Is the set, one of heads, an answer set of the clauses with these atoms as facts?
-pub(crate) fn answers(
+// Clauses with the atoms that are given as facts.
+#[derive(Drop)]
+pub(crate) struct Textbook {
     heap: Global,
-    clauses: &[Clause],
-    facts: Subset,
-    set: Subset,
-) -> Result<bool, AllocError> {
-    let all = set.or(facts);
-    let positive = reduct(heap, clauses, all)?;
-    let positive = positive.as_slice();
-    Ok(set.within(heads(clauses)) && smallest(positive, facts) == all && allows(positive, all))
+    clauses: Vec<Clause>,
+    pub(crate) facts: Subset,
 }
 
-// Every answer set of the clauses with these atoms as facts.
-pub(crate) fn all_answers(
-    heap: Global,
-    clauses: &[Clause],
-    facts: Subset,
-) -> Result<Vec<Subset>, AllocError> {
-    let mut found = Vec::new(heap);
-    for number in 0..SETS {
-        let set = Subset::numbered(number);
-        if answers(heap, clauses, facts, set)? {
-            found.push(set)?;
-        }
+impl Textbook {
+    pub(crate) fn of(heap: Global, job: &Job) -> Result<Textbook, AllocError> {
+        let clauses = job
+            .lines
+            .iter()
+            .map(|line| Clause {
+                head: line.head,
+                plain: Subset::of(line.plain.as_slice()),
+                negated: Subset::of(line.negated.as_slice()),
+            })
+            .collect(heap)?;
+        let facts = Subset::of(job.given.as_slice());
+        Ok(Textbook {
+            heap,
+            clauses,
+            facts,
+        })
     }
-    Ok(found)
+
+    // The same of the clauses that have a head.
+    pub(crate) fn headed(&self) -> Result<Textbook, AllocError> {
+        let clauses = self
+            .clauses
+            .iter()
+            .copied()
+            .filter(|clause| clause.head.is_some())
+            .collect(self.heap)?;
+        Ok(Textbook {
+            heap: self.heap,
+            clauses,
+            facts: self.facts,
+        })
+    }
+
+    // The place of the first clause with a negated atom that its head reaches.
+    pub(crate) fn first_break(&self) -> Option<usize> {
+        first_break(self.clauses.as_slice())
+    }
+
+    // Is the set, one of heads, an answer set?
+    pub(crate) fn answers(&self, set: Subset) -> Result<bool, AllocError> {
+        let all = set.or(self.facts);
+        let positive = reduct(self.heap, self.clauses.as_slice(), all)?;
+        let positive = positive.as_slice();
+        Ok(
+            set.within(heads(self.clauses.as_slice()))
+                && smallest(positive, self.facts) == all
+                && allows(positive, all),
+        )
+    }
+
+    pub(crate) fn all_answers(&self) -> Result<Vec<Subset>, AllocError> {
+        let mut found = Vec::new(self.heap);
+        for set in (0..SETS).map(Subset::numbered) {
+            if self.answers(set)? {
+                found.push(set)?;
+            }
+        }
+        Ok(found)
+    }
 }

@@ -7,5 +7,3 @@ mod finding;
 mod listings;
 #[cfg(test)]
 mod refused;
-#[cfg(test)]
-mod rows;

@@ -1,5 +1,4 @@
 // Small texts and their answer sets, for any finder.
-use crate::rows::row_of;
 use closure::row::Row;
 use finders::finder::{Finder, Found};
 use programs::program::Program;
@@ -27,12 +26,12 @@ fn goes_on<F: Finder<96>>(
     earlier: Option<Row<96>>,
     want: Option<Row<96>>,
 ) -> bool {
-    let mut row = row_of(STALE);
+    let mut row = Row::of(STALE);
     match (
         finder.next(program, given, earlier.as_ref(), &mut row),
         want,
     ) {
-        (Ok(Found::Entry), Some(entry)) => row.same(&entry),
+        (Ok(Found::Entry), Some(entry)) => row == entry,
         (Ok(Found::End), None) => row.count() == 0,
         _ => false,
     }
@@ -41,10 +40,10 @@ fn goes_on<F: Finder<96>>(
 // Does the finder list the wanted sets, each found by resuming from the one before, and then tell the end?
 pub(crate) fn lists<F: Finder<96>>(heap: Global, finder: &F, case: Case) -> Result<bool, Fault> {
     let (section, _atoms) = read_text(heap, Text::Plan, case.text, Atoms::new(heap))?;
-    let given = row_of(case.given);
+    let given = Row::of(case.given);
     let mut earlier = None;
     for atoms in case.want {
-        let entry = row_of(*atoms);
+        let entry = Row::of(*atoms);
         if !goes_on(finder, section.program(), &given, earlier, Some(entry)) {
             return Ok(false);
         }
@@ -66,7 +65,7 @@ pub(crate) fn begins<F: Finder<96>>(
         section.program(),
         &Row::clear(),
         None,
-        Some(row_of(entry)),
+        Some(Row::of(entry)),
     ))
 }
 
@@ -79,15 +78,15 @@ pub(crate) fn cause_after<F: Finder<96>>(
     earlier: Option<Row<96>>,
 ) -> Result<u8, Fault> {
     let (section, _atoms) = read_text(heap, Text::Plan, text, Atoms::new(heap))?;
-    let mut row = row_of(STALE);
+    let mut row = Row::of(STALE);
     let answer = finder.next(
         section.program(),
-        &row_of(given),
+        &Row::of(given),
         earlier.as_ref(),
         &mut row,
     );
     match answer {
-        Err(refusal) if row.same(&row_of(STALE)) => Ok(refusal.cause()),
+        Err(refusal) if row == Row::of(STALE) => Ok(refusal.cause()),
         _ => Ok(0),
     }
 }

@@ -1,6 +1,6 @@
 // What each finder refuses, with the row left as it was.
 use crate::listings::{begins, cause_after};
-use crate::rows::row_of;
+use closure::row::Row;
 use finders::branching::Branching;
 use finders::counting::Counting;
 use finders::finder::Finder;
@@ -22,19 +22,19 @@ const HEADS_25: &[u8] =
 fn of_any<F: Finder<96>>(rt: &impl Abort, heap: Global, finder: &F) -> Result<(), Fail> {
     assert_eq!(rt; cause_after(heap, finder, LOOP_OF_TWO, &[0], None)?, 18);
     assert_eq!(rt;
-        cause_after(heap, finder, LOOP_OF_TWO, &[0], Some(row_of(NONE)))?,
+        cause_after(heap, finder, LOOP_OF_TWO, &[0], Some(Row::of(NONE)))?,
         18
     );
     assert_eq!(rt;
-        cause_after(heap, finder, LOOP_OF_TWO, NONE, Some(row_of(&[0, 1])))?,
+        cause_after(heap, finder, LOOP_OF_TWO, NONE, Some(Row::of(&[0, 1])))?,
         19
     );
     assert_eq!(rt;
-        cause_after(heap, finder, LOOP_OF_TWO, NONE, Some(row_of(&[9])))?,
+        cause_after(heap, finder, LOOP_OF_TWO, NONE, Some(Row::of(&[9])))?,
         19
     );
     assert_eq!(rt;
-        cause_after(heap, finder, b"a :- not a.", NONE, Some(row_of(NONE)))?,
+        cause_after(heap, finder, b"a :- not a.", NONE, Some(Row::of(NONE)))?,
         19
     );
     Ok(())
@@ -51,7 +51,7 @@ fn many_heads(rt: HostRuntime) -> Result<(), Fail> {
     let heap = rt.alloc();
     assert_eq!(rt; cause_after(heap, &Counting, HEADS_25, NONE, None)?, 12);
     assert_eq!(rt;
-        cause_after(heap, &Counting, HEADS_25, &[0], Some(row_of(&[1])))?,
+        cause_after(heap, &Counting, HEADS_25, &[0], Some(Row::of(&[1])))?,
         12
     );
     assert!(rt; begins(heap, &Counting, HEADS_24, NONE)?);

@@ -1,15 +1,24 @@
 // What is read of texts that are not refused.
 use loading::games::read_game;
 use loading::side::Side;
-use programs::rule::Head;
+use loading::sources::Sources;
 use reading::section::Section;
 use reading::table::Atoms;
 use refusals::fault::Text;
 use std::process::Abort;
 use std::test::Fail;
 
+// A plan text without a fault text and a site text.
+fn alone(plan: &[u8]) -> Sources<'_> {
+    Sources {
+        plan,
+        faults: b"",
+        site: b"",
+    }
+}
+
 // The section has these rules and no others: where each starts, its head, its plain and its negated atoms.
-fn check_rules(rt: &impl Abort, section: &Section, rules: &[(usize, Head, &[u16], &[u16])]) {
+fn check_rules(rt: &impl Abort, section: &Section, rules: &[(usize, Option<u16>, &[u16], &[u16])]) {
     assert_eq!(rt; section.count(), rules.len());
     assert_eq!(rt; section.places().len(), rules.len());
     assert_eq!(rt; section.program().rules().len(), rules.len());
@@ -35,35 +44,28 @@ fn check_atoms(rt: &impl Abort, atoms: &Atoms<'_>, names: &[(Text, usize, &str)]
 
 #[test]
 fn three_texts(rt: HostRuntime) -> Result<(), Fail> {
-    let plan = b"radio :- not wire. wire :- not radio.";
-    let faults = b"cut :- not quiet. quiet :- not cut.";
-    let site = b"dead :- wire, cut. :- dead.";
-    let game = read_game(rt.alloc(), 2, plan, faults, site)?;
+    let sources = Sources {
+        plan: b"radio :- not wire. wire :- not radio.",
+        faults: b"cut :- not quiet. quiet :- not cut.",
+        site: b"dead :- wire, cut. :- dead.",
+    };
+    let game = read_game(rt.alloc(), 2, sources)?;
     assert_eq!(rt; game.side, Side::EveryPlan);
     let texts = &game.texts;
     check_rules(
         &rt,
         texts.plan(),
-        &[
-            (0, Head::Atom(0), &[], &[1]),
-            (19, Head::Atom(1), &[], &[0]),
-        ],
+        &[(0, Some(0), &[], &[1]), (19, Some(1), &[], &[0])],
     );
     check_rules(
         &rt,
         texts.faults(),
-        &[
-            (0, Head::Atom(2), &[], &[3]),
-            (18, Head::Atom(3), &[], &[2]),
-        ],
+        &[(0, Some(2), &[], &[3]), (18, Some(3), &[], &[2])],
     );
     check_rules(
         &rt,
         texts.site(),
-        &[
-            (0, Head::Atom(4), &[1, 2], &[]),
-            (19, Head::None, &[4], &[]),
-        ],
+        &[(0, Some(4), &[1, 2], &[]), (19, None, &[4], &[])],
     );
     check_atoms(
         &rt,
@@ -83,17 +85,17 @@ fn three_texts(rt: HostRuntime) -> Result<(), Fail> {
 #[test]
 fn one_text(rt: HostRuntime) -> Result<(), Fail> {
     let plan = b"b :- a, not c, a, not b.\n:- .\nb.\na :- .";
-    let game = read_game(rt.alloc(), 1, plan, b"", b"")?;
+    let game = read_game(rt.alloc(), 1, alone(plan))?;
     assert_eq!(rt; game.side, Side::SomePlan);
     let texts = &game.texts;
     check_rules(
         &rt,
         texts.plan(),
         &[
-            (0, Head::Atom(0), &[1, 1], &[2, 0]),
-            (25, Head::None, &[], &[]),
-            (30, Head::Atom(0), &[], &[]),
-            (33, Head::Atom(1), &[], &[]),
+            (0, Some(0), &[1, 1], &[2, 0]),
+            (25, None, &[], &[]),
+            (30, Some(0), &[], &[]),
+            (33, Some(1), &[], &[]),
         ],
     );
     check_rules(&rt, texts.faults(), &[]);
@@ -144,7 +146,7 @@ fn counts(rt: HostRuntime) -> Result<(), Fail> {
         ),
     ];
     for (plan, rules, atoms) in cases {
-        let game = read_game(rt.alloc(), 1, plan.as_bytes(), b"", b"")?;
+        let game = read_game(rt.alloc(), 1, alone(plan.as_bytes()))?;
         assert_eq!(rt; game.texts.plan().count(), rules, "{}", plan);
         assert_eq!(rt; game.texts.atoms().count(), atoms, "{}", plan);
     }

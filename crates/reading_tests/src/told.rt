@@ -1,5 +1,6 @@
 // What a load says of a side and three texts.
 use loading::games::read_game;
+use loading::sources::Sources;
 use std::alloc::Global;
 use std::process::Abort;
 
@@ -11,7 +12,8 @@ pub(crate) fn told<'a>(
     faults: &'a [u8],
     site: &'a [u8],
 ) -> (u8, u8, usize) {
-    match read_game(heap, side, plan, faults, site) {
+    let sources = Sources { plan, faults, site };
+    match read_game(heap, side, sources) {
         Ok(_) => (0, 0, 0),
         Err(fault) => (fault.cause(), fault.text(), fault.byte()),
     }

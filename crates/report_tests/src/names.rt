@@ -1,7 +1,16 @@
 // Names by their numbers.
+use loading::sources::Sources;
 use naming::name::name;
 use std::alloc::Global;
 use std::test::Fail;
+
+fn sources<'a>(plan: &'a str, faults: &'a str, site: &'a str) -> Sources<'a> {
+    Sources {
+        plan: plan.as_bytes(),
+        faults: faults.as_bytes(),
+        site: site.as_bytes(),
+    }
+}
 
 // Three texts, and the names of their atoms in the order of their numbers.
 type Named<'a> = (&'a str, &'a str, &'a str, &'a [&'a str]);
@@ -26,14 +35,8 @@ static NAMED: [Named<'static>; 4] = [
 ];
 
 // The cause, text and byte of the refusal of a name, or three times 0.
-fn told<'a>(
-    heap: Global,
-    plan: &'a [u8],
-    faults: &'a [u8],
-    site: &'a [u8],
-    number: usize,
-) -> (u8, u8, usize) {
-    match name(heap, plan, faults, site, number) {
+fn told(heap: Global, sources: Sources<'_>, number: usize) -> (u8, u8, usize) {
+    match name(heap, sources, number) {
         Ok(_) => (0, 0, 0),
         Err(fault) => (fault.cause(), fault.text(), fault.byte()),
     }
@@ -43,13 +46,7 @@ fn told<'a>(
 fn each_number(rt: HostRuntime) -> Result<(), Fail> {
     for (plan, faults, site, names) in &NAMED {
         for (number, want) in names.iter().enumerate() {
-            let got = name(
-                rt.alloc(),
-                plan.as_bytes(),
-                faults.as_bytes(),
-                site.as_bytes(),
-                number,
-            )?;
+            let got = name(rt.alloc(), sources(plan, faults, site), number)?;
             assert_eq!(rt; got, want.as_bytes(), "{}", number);
         }
     }
@@ -61,13 +58,7 @@ fn each_number(rt: HostRuntime) -> Result<(), Fail> {
 fn past_the_atoms(rt: HostRuntime) {
     for (plan, faults, site, names) in &NAMED {
         for number in [names.len(), 95, 96, usize::MAX] {
-            let got = told(
-                rt.alloc(),
-                plan.as_bytes(),
-                faults.as_bytes(),
-                site.as_bytes(),
-                number,
-            );
+            let got = told(rt.alloc(), sources(plan, faults, site), number);
             assert_eq!(rt; got, (16, 0, 0), "{}", number);
         }
     }
@@ -86,13 +77,7 @@ fn refused_texts(rt: HostRuntime) {
         ("", "", "p :- not q. q :- p.", 2, (16, 0, 0)),
     ];
     for (plan, faults, site, number, want) in cases {
-        let got = told(
-            rt.alloc(),
-            plan.as_bytes(),
-            faults.as_bytes(),
-            site.as_bytes(),
-            number,
-        );
+        let got = told(rt.alloc(), sources(plan, faults, site), number);
         assert_eq!(rt; got, want, "{}; {}", plan, number);
     }
 }

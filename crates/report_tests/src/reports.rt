@@ -1,16 +1,17 @@
 // Reports of a small site.
 use closure::row::Row;
+use loading::sources::Sources;
 use refusals::fault::Fault;
 use report::verdict::report;
 use std::alloc::Global;
 use std::process::Abort;
 use std::test::Fail;
 
-static PLAN: &[u8] = b"radio :- not wire. wire :- not radio.";
-
-static FAULTS: &[u8] = b"cut :- not quiet. quiet :- not cut.";
-
-static SITE: &[u8] = b"dead :- wire, cut. :- dead.";
+static SMALL: Sources<'static> = Sources {
+    plan: b"radio :- not wire. wire :- not radio.",
+    faults: b"cut :- not quiet. quiet :- not cut.",
+    site: b"dead :- wire, cut. :- dead.",
+};
 
 // `want` is written, and the bytes after it are kept.
 fn check_report(
@@ -21,7 +22,7 @@ fn check_report(
     want: &[u8],
 ) -> Result<(), Fail> {
     let mut buffer = [b'x'; 64];
-    let length = report(heap, PLAN, FAULTS, SITE, coherent, shown, &mut buffer)?;
+    let length = report(heap, SMALL, coherent, shown, &mut buffer)?;
     assert_eq!(rt; &buffer[0..length], want);
     assert_eq!(rt; &buffer[length..64], &[b'x'; 64][length..64]);
     Ok(())
@@ -78,11 +79,11 @@ fn room(rt: HostRuntime) {
     let heap = rt.alloc();
     let radio = Some(Row::clear().with(0));
     let mut exact = [b'x'; 25];
-    let fits = report(heap, PLAN, FAULTS, SITE, true, radio, &mut exact);
+    let fits = report(heap, SMALL, true, radio, &mut exact);
     assert_eq!(rt; fits, Ok(25));
     assert_eq!(rt; &exact, b"% coherent\n% plan\nradio.\n");
     let mut short = [b'x'; 24];
-    let lacks = report(heap, PLAN, FAULTS, SITE, true, radio, &mut short);
+    let lacks = report(heap, SMALL, true, radio, &mut short);
     assert_eq!(rt; lacks, Err(Fault::NoRoom));
     assert_eq!(rt; short, [b'x'; 24]);
 }
@@ -95,8 +96,13 @@ fn check_refused(
     shown: Option<Row<96>>,
     want: (u8, u8, usize),
 ) {
+    let sources = Sources {
+        plan,
+        faults: b"",
+        site: b"",
+    };
     let mut buffer = [b'x'; 8];
-    let got = match report(heap, plan, b"", b"", true, shown, &mut buffer) {
+    let got = match report(heap, sources, true, shown, &mut buffer) {
         Ok(_) => (0, 0, 0),
         Err(fault) => (fault.cause(), fault.text(), fault.byte()),
     };

@@ -1,9 +1,9 @@
 // Is a set an answer set? Atoms are numbered by first appearance in the text.
-use crate::rows::row_of;
+use closure::row::Row;
 use reading::table::Atoms;
 use reading::text::read_text;
 use refusals::fault::{Fault, Text};
-use solving::answer::is_answer_set;
+use solving::job::Job;
 use std::alloc::Global;
 use std::test::Fail;
 
@@ -17,7 +17,12 @@ struct Case {
 
 fn decided(heap: Global, case: Case) -> Result<bool, Fault> {
     let (section, _atoms) = read_text(heap, Text::Plan, case.text, Atoms::new(heap))?;
-    Ok(is_answer_set(section.program(), &row_of(case.given), &row_of(case.row)))
+    let given = Row::of(case.given);
+    let job = Job {
+        program: section.program(),
+        given: &given,
+    };
+    Ok(job.is_answer_set(&Row::of(case.row)))
 }
 
 const NONE: &[u16] = &[];

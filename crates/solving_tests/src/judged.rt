@@ -1,5 +1,5 @@
 // The judgement of a stratified program: the one answer set of its headed rules, and whether its constraints hold.
-use crate::rows::{program_of, row_of};
+use crate::rows::program_of;
 use closure::row::Row;
 use solving::stratified::Stratified;
 use std::alloc::{AllocError, Global};
@@ -95,8 +95,8 @@ fn judged(rt: HostRuntime) -> Result<(), Fail> {
     for (text, given, answer, holds) in &CASES {
         let program = program_of(rt.alloc(), text)?.ok_or("a limit")?;
         let stratified = Stratified::new(program)?;
-        let given = row_of(given);
-        assert!(rt; stratified.answer(&given).same(&row_of(answer)), "{}", text);
+        let given = Row::of(given);
+        assert!(rt; stratified.answer(&given) == Row::of(answer), "{}", text);
         assert_eq!(rt; stratified.holds(&given), *holds, "{}", text);
     }
     Ok(())
@@ -129,11 +129,11 @@ fn chained(rt: HostRuntime) -> Result<(), Fail> {
     let program = program_of(rt.alloc(), text.as_str())?.ok_or("a limit")?;
     let stratified = Stratified::new(program)?;
     let none = Row::clear();
-    assert!(rt; stratified.answer(&none).same(&every_second(1)));
+    assert!(rt; stratified.answer(&none) == every_second(1));
     assert_eq!(rt; stratified.answer(&none).count(), 48);
     assert!(rt; stratified.holds(&none));
-    let first = row_of(&[0]);
-    assert!(rt; stratified.answer(&first).same(&every_second(2)));
+    let first = Row::of(&[0]);
+    assert!(rt; stratified.answer(&first) == every_second(2));
     assert_eq!(rt; stratified.answer(&first).count(), 47);
     assert!(rt; !stratified.holds(&first));
     Ok(())
@@ -146,7 +146,7 @@ fn chained_from_a_fact(rt: HostRuntime) -> Result<(), Fail> {
     let program = program_of(rt.alloc(), text.as_str())?.ok_or("a limit")?;
     let stratified = Stratified::new(program)?;
     let none = Row::clear();
-    assert!(rt; stratified.answer(&none).same(&every_second(0)));
+    assert!(rt; stratified.answer(&none) == every_second(0));
     assert!(rt; !stratified.holds(&none));
     Ok(())
 }

@@ -1,5 +1,4 @@
 // The first rule that breaks the strata.
-use crate::rows::row_of;
 use reading::table::Atoms;
 use reading::text::read_text;
 use refusals::fault::{Fault, Text};

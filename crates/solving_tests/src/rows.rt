@@ -1,19 +1,10 @@
-// Rows from lists of atoms, and programs from texts. Atoms are numbered by first appearance in the text.
-use closure::row::Row;
+// Programs from texts. Atoms are numbered by first appearance in the text.
 use programs::program::Program;
 use programs::rule::Rule;
 use reading::table::Atoms;
 use reading::text::read_text;
 use refusals::fault::{Fault, Text};
 use std::alloc::Global;
-
-pub(crate) fn row_of(atoms: &[u16]) -> Row<96> {
-    let mut row = Row::clear();
-    for atom in atoms {
-        row.put(*atom);
-    }
-    row
-}
 
 // The text's rules as a program of its own; none where they break a limit, which no text does.
 pub(crate) fn program_of(heap: Global, text: &str) -> Result<Option<Program<96>>, Fault> {
