@@ -4,3 +4,5 @@
 pub mod files;
 pub mod input;
 pub mod refusal;
+#[cfg(test)]
+mod tests;
