@@ -7,133 +7,62 @@ use solving::job::Job;
 use std::alloc::Global;
 use std::test::Fail;
 
-#[derive(Clone, Copy)]
-struct Case {
-    text: &'static [u8],
-    given: &'static [u16],
-    row: &'static [u16],
-    want: bool,
-}
+const LOOP_OF_TWO: &[u8] = b"a :- b. b :- a.";
 
-fn decided(heap: Global, case: Case) -> Result<bool, Fault> {
-    let (section, _atoms) = read_text(heap, Text::Plan, case.text, Atoms::new(heap))?;
-    let given = Row::of(case.given);
+const FOUR: &[u8] = b"a :- not b. b :- c, not d. c :- a. d :- not b.";
+
+// Texts, what is given, a set, and whether it is an answer set.
+const CASES: [(&[u8], &[u16], &[u16], bool); 16] = [
+    (LOOP_OF_TWO, &[], &[], true),
+    (LOOP_OF_TWO, &[], &[0, 1], false),
+    (LOOP_OF_TWO, &[], &[0], false),
+    // a 0, b 1, c 2, d 3
+    (FOUR, &[], &[0, 2, 3], true),
+    (FOUR, &[], &[1], false),
+    (FOUR, &[], &[0, 1, 2, 3], false),
+    (b"a :- not a.", &[], &[], false),
+    (b"a :- not a.", &[], &[0], false),
+    (b":- .", &[], &[], false),
+    (b"a :- .", &[], &[0], true),
+    (b"a :- .", &[], &[], false),
+    // cut 0, wire 1, quiet 2
+    (
+        b"cut :- wire, not quiet. quiet :- not cut.",
+        &[1],
+        &[0],
+        true,
+    ),
+    (
+        b"cut :- wire, not quiet. quiet :- not cut.",
+        &[2],
+        &[0],
+        false,
+    ),
+    (
+        b"cut :- wire, not quiet. quiet :- not cut.",
+        &[1],
+        &[0, 1],
+        false,
+    ),
+    (b"a. :- a, not b.", &[1], &[0], true),
+    (b"a. :- a, not b.", &[], &[0], false),
+];
+
+fn decided(heap: Global, text: &[u8], given: &[u16], set: &[u16]) -> Result<bool, Fault> {
+    let (section, _atoms) = read_text(heap, Text::Plan, text, Atoms::new(heap))?;
+    let given = Row::of(given);
     let job = Job {
         program: section.program(),
         given: &given,
     };
-    Ok(job.is_answer_set(&Row::of(case.row)))
+    Ok(job.is_answer_set(&Row::of(set)))
 }
-
-const NONE: &[u16] = &[];
 
 // Every row of a small text, and what is given.
 #[test]
 fn sets(rt: HostRuntime) -> Result<(), Fail> {
-    let loop_of_two: &[u8] = b"a :- b. b :- a.";
-    let four: &[u8] = b"a :- not b. b :- c, not d. c :- a. d :- not b.";
-    let cases = [
-        Case {
-            text: loop_of_two,
-            given: NONE,
-            row: NONE,
-            want: true,
-        },
-        Case {
-            text: loop_of_two,
-            given: NONE,
-            row: &[0, 1],
-            want: false,
-        },
-        Case {
-            text: loop_of_two,
-            given: NONE,
-            row: &[0],
-            want: false,
-        },
-        // a 0, b 1, c 2, d 3
-        Case {
-            text: four,
-            given: NONE,
-            row: &[0, 2, 3],
-            want: true,
-        },
-        Case {
-            text: four,
-            given: NONE,
-            row: &[1],
-            want: false,
-        },
-        Case {
-            text: four,
-            given: NONE,
-            row: &[0, 1, 2, 3],
-            want: false,
-        },
-        Case {
-            text: b"a :- not a.",
-            given: NONE,
-            row: NONE,
-            want: false,
-        },
-        Case {
-            text: b"a :- not a.",
-            given: NONE,
-            row: &[0],
-            want: false,
-        },
-        Case {
-            text: b":- .",
-            given: NONE,
-            row: NONE,
-            want: false,
-        },
-        Case {
-            text: b"a :- .",
-            given: NONE,
-            row: &[0],
-            want: true,
-        },
-        Case {
-            text: b"a :- .",
-            given: NONE,
-            row: NONE,
-            want: false,
-        },
-        // cut 0, wire 1, quiet 2
-        Case {
-            text: b"cut :- wire, not quiet. quiet :- not cut.",
-            given: &[1],
-            row: &[0],
-            want: true,
-        },
-        Case {
-            text: b"cut :- wire, not quiet. quiet :- not cut.",
-            given: &[2],
-            row: &[0],
-            want: false,
-        },
-        Case {
-            text: b"cut :- wire, not quiet. quiet :- not cut.",
-            given: &[1],
-            row: &[0, 1],
-            want: false,
-        },
-        Case {
-            text: b"a. :- a, not b.",
-            given: &[1],
-            row: &[0],
-            want: true,
-        },
-        Case {
-            text: b"a. :- a, not b.",
-            given: NONE,
-            row: &[0],
-            want: false,
-        },
-    ];
-    for case in cases {
-        assert_eq!(rt; decided(rt.alloc(), case)?, case.want);
+    for (text, given, set, want) in &CASES {
+        assert_eq!(rt; decided(rt.alloc(), text, given, set)?, *want);
     }
     Ok(())
 }
