@@ -1,5 +1,5 @@
 -- A listing from the start meets every answer set exactly once.
-use Rattle.std.proofs.Common.{◌≡◌, ℕ, suc, ◌≤◌, List, [], ◌∷◌, ◌++◌, length, sym, refl, ap, ◌∙◌, subst, ⊎_elim, arith}
+use Rattle.std.proofs.Common.{◌≡◌, ℕ, suc, ◌≤◌, false, List, [], ◌∷◌, ◌++◌, length, replicate, sym, refl, ap, ◌∙◌, subst, ⊎_elim, arith}
 use Rattle.std.specs.List.{ContainsAt as Has}
 use Rattle.std.proofs.ByRecursion.{has_append_right}
 use Rattle.std.proofs.lemmas.List.{append_assoc}
@@ -80,6 +80,12 @@ module _ {n : ℕ} (m : Meaning n) (rules : List Rule) (given : Row) where
       let is : left ≡ xs = one_rest (m.order rules given) o x left xs (rest_on (m.order rules given) at x left rest) (resumed (after x) xs more) in
       subst (λ (l : List Row). Rest (m.order rules given) at (x ∷ l)) is rest
 
+  -- each call goes on, whatever row it is handed
+  reaches_end : Taken n m.most rules given → (at : From) (xs : List Row) → Rest (m.order rules given) at xs → Listing m rules given at xs
+  reaches_end taken at [] rest = ends at given (replicate n false) (end taken rest)
+  reaches_end taken at (x ∷ xs) rest =
+      goes at given x xs (entry x xs taken rest) (reaches_end taken (after x) xs (rest_on (m.order rules given) at x xs rest))
+
   ordered : (xs : List Row) → Rest (m.order rules given) start xs → xs ≡ m.order rules given
   ordered _ whole = refl
 
@@ -100,5 +106,6 @@ pub listings_are_whole : ListingsAreWhole
 listings_are_whole = record {
   whole = λ n m rules given xs listing. is_whole m rules given xs listing;
   resumed = λ n m rules given at xs listing. resumed m rules given at xs listing;
+  reaches_end = λ n m rules given taken at xs rest. reaches_end m rules given taken at xs rest;
   alike = λ n m m' rules given xs ys listing other. alike (is_whole m rules given xs listing).lists (is_whole m' rules given ys other).lists;
 }

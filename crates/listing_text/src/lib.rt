@@ -2,4 +2,6 @@
 #![tactic(auto)]
 
 pub mod lines;
+#[cfg(test)]
+mod tests;
 pub mod words;
