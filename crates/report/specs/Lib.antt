@@ -1,3 +1,2 @@
 pub mod Asked
-pub mod Counted
 pub mod Reported

@@ -4,5 +4,4 @@
 pub mod input;
 mod known;
 mod lines;
-pub mod summary;
 pub mod verdict;

@@ -1,2 +1,0 @@
-cut :- not quiet.
-quiet :- not cut.

@@ -1,2 +1,0 @@
-radio :- not wire.
-wire :- not radio.

@@ -1,2 +1,0 @@
-dead :- wire, cut.
-:- dead.
