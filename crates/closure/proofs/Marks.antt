@@ -9,6 +9,7 @@ use Rattle.std.specs.Cmp.{booleans_Decides}
 use Rattle.std.specs.Cmp.Lexicographic.{pointwise, pointwise_decides}
 use Rattle.std.specs.List.{count_by}
 use Rattle.game.specs.Sets.{Row, In, Within, union}
+use Rattle.game.proofs.Rows.{row}
 use Rattle.closure.specs.Rows.{marked, minus}
 
 -- a test of two rows tells whether they have the same marks
@@ -86,6 +87,12 @@ pub minus_from :
 minus_from n r s t p q h =
     ext_get_or false r (minus s t) (p ∙ sym q ∙ sym (length-minus s t))
     (λ k l. h k (omega arith) ∙ and_laid (get_or s k false) (get_or t k false) ∙ sym (get_or-minus s t k))
+
+-- the marks of the row of a test
+pub get_or-row : (n : ℕ) (f : ℕ → Bool) (a : ℕ) → a < n → get_or (row n f) a false ≡ f a
+get_or-row zero f a less = absurd (omega arith)
+get_or-row (suc n) f zero less = refl
+get_or-row (suc n) f (suc a) less = get_or-row n (λ b. f (suc b)) a (omega arith)
 
 -- Inclusion and counts.
 

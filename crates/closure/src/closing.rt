@@ -2,18 +2,18 @@
 ghost use Rattle.game.specs.Derives.{SmallestClosed};
 ghost use Rattle.closure.specs.Steps.{Rounds};
 
-use crate::row::Row;
+use crate::set::AtomSet;
 use crate::step::Step;
 
-pub fn closure<const N: usize, S: Step<N>>(step: &S, start: &Row<N>) -> Row<N>
-    ensures smallest { SmallestClosed N (S.follows step.now) start.now.marks result.marks }
-    ensures rounds { Rounds N (S.follows step.now) start.now.marks result.marks }
+pub fn closure<const N: usize, T: AtomSet<N>, S: Step<N, T>>(step: &S, start: &T) -> T
+    ensures smallest { SmallestClosed N (S.follows step.now) (T.marks start.now) (T.marks result) }
+    ensures rounds { Rounds N (S.follows step.now) (T.marks start.now) (T.marks result) }
 {
     let mut set = *start;
     loop {
         let mut next = set;
         step.mark(&set, &mut next);
-        if next == set {
+        if next.same(&set) {
             return set;
         }
         set = next;

@@ -2,7 +2,9 @@
 #![tactic(auto)]
 
 pub mod closing;
+pub mod mask;
 pub mod row;
+pub mod set;
 pub mod step;
 #[cfg(test)]
 mod tests;

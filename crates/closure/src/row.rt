@@ -4,6 +4,8 @@ ghost use Rattle.game.specs.Rules.{among};
 ghost use Rattle.game.specs.Sets.{union as united};
 ghost use Rattle.closure.specs.Rows.{marked, minus as less};
 
+use crate::set::AtomSet;
+
 #[derive(Clone, Copy, PartialEq, Eq)]
 pub struct Row<const N: usize> {
     marks: [bool; N],
@@ -110,4 +112,14 @@ impl<const N: usize> Row<N> {
     {
         self.laid(other, false)
     }
+}
+
+impl<const N: usize> AtomSet<N> for Row<N> {
+    ghost marks = { λ s. s.marks };
+
+    fn same(&self, other: &Row<N>) -> bool {
+        self == other
+    }
+
+    ghost wide = { λ s. s.wide };
 }

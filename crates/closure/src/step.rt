@@ -2,14 +2,14 @@
 ghost use Rattle.std.specs.Prelude.{ℕ, Bool, List};
 ghost use Rattle.closure.specs.Steps.{Grows, Marked};
 
-use crate::row::Row;
+use crate::set::AtomSet;
 
-pub trait Step<const N: usize> {
+pub trait Step<const N: usize, T: AtomSet<N>> {
     ghost follows: { Self → List Bool → ℕ → Bool };
 
     ghost laws: { Grows N follows };
 
     // Adds to `out` every atom that follows from `from`, and no other.
-    fn mark(&self, from: &Row<N>, out: &mut Row<N>)
-        ensures { Marked N (follows self.now from.now.marks) out.old.marks out.new.marks };
+    fn mark(&self, from: &T, out: &mut T)
+        ensures { Marked N (follows self.now (T.marks from.now)) (T.marks out.old) (T.marks out.new) };
 }

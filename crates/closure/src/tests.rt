@@ -8,7 +8,7 @@ use crate::step::Step;
 #[derive(Clone, Copy)]
 struct Chain;
 
-impl Step<5> for Chain {
+impl Step<5, Row<5>> for Chain {
     ghost follows = { λ _ s a. slice_index_or s (a + 1) false };
 
     ghost laws = { record { grows = λ _ s t p q w a h. w (a + 1) h } };
