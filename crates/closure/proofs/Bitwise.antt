@@ -1,5 +1,5 @@
 -- Sets as the bits of a number, and what the operations on bits make of them.
-use Rattle.std.proofs.Common.{◌≡◌, ℕ, ◌<◌, ◌≤◌, ◌-◌, ◌*◌, ◌%◌, ◌^◌, Bool, true, false, not, ◌&&◌, ◌||◌, ◌==◌, ◌≢◌, max, min, length, get_or, set, replicate, eqb, sym, refl, ap, subst, ◌∙◌, ⊎_elim, Decides, arith}
+use Rattle.std.proofs.Common.{◌≡◌, ℕ, ◌<◌, ◌≤◌, ◌-◌, ◌*◌, ◌%◌, ◌^◌, true, false, not, ◌&&◌, ◌||◌, ◌==◌, ◌≢◌, max, min, length, get_or, set, replicate, eqb, sym, ap, subst, ◌∙◌, ⊎_elim, Decides, arith}
 use Rattle.std.proofs.lemmas.List.{ext_get_or, get_or_past, get_or-set_same, get_or-set_other, get_or-replicate, length-replicate, length-set}
 use Rattle.std.proofs.lemmas.Bool.{cases_lt, cases_eq, eqb-true, eq-eqb}
 use Rattle.std.proofs.lemmas.Bool.Decides.{nat_tests}
@@ -8,10 +8,9 @@ use Rattle.std.specs.Int.RustNames.{bit_and, bit_or}
 use Rattle.std.proofs.lemmas.Nat.{and_le_l, or_lt, one_shl, pow_below}
 use Rattle.std.proofs.lemmas.Nat.Bits.{bit_at_above, bit_at-lt, bit_at-zero, bit_at_and, bit_at_or, bit_at_not, bit_at_set_same, bit_at_set_other, bit_at-trailing_zeros, same_from_bits_below}
 use Rattle.game.specs.Sets.{Row, In, Within, union}
-use Rattle.game.proofs.Rows.{row}
 use Rattle.closure.specs.Rows.{minus}
 use Rattle.closure.specs.Bits.{bit_row, length-bit_row}
-use Rattle.closure.proofs.Marks.{in_below, get_or-row, get_or-union, length-union, get_or-minus, length-minus}
+use Rattle.closure.proofs.Marks.{get_or-row, get_or-union, length-union, get_or-minus, length-minus}
 
 mark_below : (n a : ℕ) → a < 96 → get_or (bit_row n) a false ≡ (bit_at n a == 1)
 unfolding bit_row

@@ -28,7 +28,7 @@ pub(crate) struct Picked<'a, const N: usize, P> {
     pub(crate) picker: P,
 }
 
-impl<'a, const N: usize, P: Picks<N>> Step<N> for Picked<'a, N, P> {
+impl<'a, const N: usize, P: Picks<N>> Step<N, Row<N>> for Picked<'a, N, P> {
     ghost follows = { λ s from a. headed_by (P.chosen s.picker from) (rules_of s.program.now) a };
 
     ghost laws = { record { grows = λ s a b wide wide' within i. picked_grows P.picks_more s.picker (rules_of s.program.now) a b within i } };

@@ -1,5 +1,4 @@
-use Rattle.std.proofs.Common.{◌+◌, true, set, sym, ap, subst, ◌∙◌}
-use Rattle.game.specs.Sets.{Row}
+use Rattle.std.proofs.Common.{◌+◌, sym, ap, subst, ◌∙◌}
 use Rattle.closure.specs.Bits.{bit_row, length-bit_row}
 use Rattle.closure.proofs.Copying.{CopiedTo, copied_none, copied_put, copied_skip, copied_all}
 use Rattle.closure.proofs.mask.Mask.of.Goals as goal

@@ -1,4 +1,4 @@
-use Rattle.std.proofs.Common.{◌≡◌, ◌<◌, ◌≤◌, true, length, sym, arith}
+use Rattle.std.proofs.Common.{true, sym, arith}
 use Rattle.std.proofs.lemmas.List.{set_past}
 use Rattle.closure.specs.Bits.{bit_row, length-bit_row}
 use Rattle.closure.proofs.Bitwise.{bit_row-set, bit_set_small}

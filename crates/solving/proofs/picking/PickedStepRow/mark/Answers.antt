@@ -2,8 +2,8 @@ use Rattle.std.proofs.Common.{◌≡◌, ◌+◌, ◌<◌, false, ◌||◌, leng
 use Rattle.programs.specs.Model.{head_model, models}
 use Rattle.solving.specs.Tests.{headed_by}
 use Rattle.solving.proofs.Marking.{marked_more, with_head, unpicked, headless, none_left}
-use Rattle.solving.proofs.picking.PickedStep.mark.Goals as goal
-use Rattle.solving.proofs.picking.PickedStep.mark.Goals.{in-Some+then-picks, in-Some+else-picks, in_default}
+use Rattle.solving.proofs.picking.PickedStepRow.mark.Goals as goal
+use Rattle.solving.proofs.picking.PickedStepRow.mark.Goals.{in-Some+then-picks, in-Some+else-picks, in_default}
 
 pub loop-rule-preserved : goal.loop-rule-preserved
 loop-rule-preserved g c a less =

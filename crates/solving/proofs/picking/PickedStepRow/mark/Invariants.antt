@@ -1,7 +1,7 @@
 use Rattle.std.proofs.Common.{◌≡◌, ℕ, ◌<◌, false, ◌||◌, get_or, drop}
 use Rattle.programs.specs.Model.{models}
 use Rattle.solving.specs.Tests.{headed_by}
-use Rattle.solving.proofs.picking.PickedStep.mark.Given as goal
+use Rattle.solving.proofs.picking.PickedStepRow.mark.Given as goal
 
 -- the marks so far and the heads that are left give the same as at the start
 abbrev pub invariant-loop-rule : goal.invariant-loop-rule

@@ -1,5 +1,5 @@
 use Rattle.std.proofs.Common.{◌≡◌, ℕ, ◌+◌, ◌<◌, ◌≤◌, false, ◌||◌, get_or}
-use Rattle.closure.proofs.tests.ChainStep5.mark.Given as goal
+use Rattle.closure.proofs.tests.ChainStep5Row5.mark.Given as goal
 
 abbrev pub invariant-loop-a : goal.invariant-loop-a
 invariant-loop-a l =

@@ -3,8 +3,8 @@ use Rattle.std.proofs.lemmas.List.{get_or-set_same, get_or-set_other}
 use Rattle.std.proofs.lemmas.Bool.{or_right}
 use Rattle.game.specs.Sets.{Row}
 use Rattle.closure.proofs.Marks.{or_nothing}
-use Rattle.closure.proofs.tests.ChainStep5.mark.Goals as goal
-use Rattle.closure.proofs.tests.ChainStep5.mark.Goals.{then-has, else-has}
+use Rattle.closure.proofs.tests.ChainStep5Row5.mark.Goals as goal
+use Rattle.closure.proofs.tests.ChainStep5Row5.mark.Goals.{then-has, else-has}
 
 -- the next place, whether it was marked or not
 next :
