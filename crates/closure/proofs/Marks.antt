@@ -9,7 +9,7 @@ use Rattle.std.specs.Cmp.{booleans_Decides}
 use Rattle.std.specs.Cmp.Lexicographic.{pointwise, pointwise_decides}
 use Rattle.std.specs.List.{count_by}
 use Rattle.game.specs.Sets.{Row, In, Within, union}
-use Rattle.game.proofs.Rows.{row}
+use Rattle.game.proofs.Rows.{row, length-row}
 use Rattle.closure.specs.Rows.{marked, minus}
 
 -- a test of two rows tells whether they have the same marks
@@ -93,6 +93,9 @@ pub get_or-row : (n : ℕ) (f : ℕ → Bool) (a : ℕ) → a < n → get_or (ro
 get_or-row zero f a less = absurd (omega arith)
 get_or-row (suc n) f zero less = refl
 get_or-row (suc n) f (suc a) less = get_or-row n (λ b. f (suc b)) a (omega arith)
+
+pub row_from : (n : ℕ) (f : ℕ → Bool) (s : Row) → length s ≡ n → ((a : ℕ) → a < n → get_or s a false ≡ f a) → s ≡ row n f
+row_from n f s wide each = ext_get_or false s (row n f) (wide ∙ sym (length-row n f)) (λ a less. let inside : a < n = omega arith in each a inside ∙ sym (get_or-row n f a inside))
 
 -- Inclusion and counts.
 

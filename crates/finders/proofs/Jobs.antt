@@ -5,20 +5,12 @@ use Rattle.game.specs.Sets.{Row, In}
 use Rattle.game.specs.Rules.{Rule, is_head}
 use Rattle.game.proofs.Rows.{row, length-row, in_width}
 use Rattle.closure.specs.Rows.{marked, minus}
-use Rattle.closure.proofs.Marks.{in_minus, marked_length}
+use Rattle.closure.proofs.Marks.{in_minus, marked_length, row_from}
 use Rattle.programs.specs.Limits.{fits}
 use Rattle.finders.specs.declared.finder.Refusal.TheVariants.{ManyHeads, GivenHead}
 use Rattle.finders.specs.Meanings.{heads_below}
 use Rattle.finders.specs.Upward.{HeadsAre}
 use Rattle.finders.specs.Jobs.{HeadsTaken, Refused, many_heads, given_head}
-
-pub get_or-row : (n : ℕ) (f : ℕ → Bool) (a : ℕ) → a < n → get_or (row n f) a false ≡ f a
-get_or-row zero f a less = absurd (omega arith)
-get_or-row (suc n) f zero less = refl
-get_or-row (suc n) f (suc a) less = get_or-row n (λ b. f (suc b)) a (omega arith)
-
-pub row_from : (n : ℕ) (f : ℕ → Bool) (s : Row) → length s ≡ n → ((a : ℕ) → a < n → get_or s a false ≡ f a) → s ≡ row n f
-row_from n f s wide each = ext_get_or false s (row n f) (wide ∙ sym (length-row n f)) (λ a less. let inside : a < n = omega arith in each a inside ∙ sym (get_or-row n f a inside))
 
 -- rows that share no member, or one that they share
 pub shared : (s t : Row) → length s ≡ length t → (minus s t ≡ s → ⊥) → (a : ℕ) × In a s × In a t

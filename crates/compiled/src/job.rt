@@ -1,0 +1,30 @@
+// A program with its masks, and the atoms that are given.
+ghost use Rattle.std.specs.Prelude.{Decides};
+ghost use Rattle.closure.specs.Bits.{bit_row};
+ghost use Rattle.game.specs.AnswerSets.{AnswerSet, Smallest};
+ghost use Rattle.programs.specs.Programs.{rules_of};
+ghost use Rattle.solving.specs.Bounds.{Broken};
+ghost use Rattle.compiled.specs.Masked.{AsMasks};
+
+use crate::masks::Masks;
+use crate::step::MaskReduct;
+use closure::closing::closure;
+use closure::mask::Mask;
+use programs::program::Program;
+
+#[derive(Clone, Copy)]
+pub struct MaskJob<'a> {
+    pub program: &'a Program<96>,
+    pub masks: &'a Masks,
+    pub given: Mask,
+    ghost same: { AsMasks (rules_of program.now) masks.now.rules masks.now.count masks.now.heads },
+}
+
+impl MaskJob<'_> {
+    // The smallest set that contains the given atoms and obeys the reduct for `against`.
+    pub fn least(&self, against: Mask) -> Mask
+        ensures { Smallest (rules_of self.now.program.now) (bit_row self.now.given.bits) (bit_row against.bits) (bit_row result.bits) }
+    {
+        closure(&MaskReduct { job: *self, against }, &self.given)
+    }
+}
