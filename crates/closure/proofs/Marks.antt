@@ -161,3 +161,7 @@ minus_in s t a h out =
     get_or-minus s t a
     ∙ and_from (get_or s a false) (not (get_or t a false)) h
     (not_from_false (get_or t a false) (⊎_elim (λ e. absurd (out e)) (λ e. e) (cases_Bool (get_or t a false))))
+
+-- a set within another adds nothing to it
+pub within_union : (s t : Row) → length s ≡ length t → Within s t → union s t ≡ t
+within_union s t e within = same_rows (union s t) t (length-union (length t) s t e refl) (λ a h. ⊎_elim (within a) (λ k. k) (in_union s t a h)) (union_right s t)

@@ -1,5 +1,5 @@
 -- Lists of atoms as rows: what holds of every atom on the list, and when a rule fires.
-use Rattle.std.proofs.Common.{◌≡◌, ℕ, ◌+◌, ◌<◌, Bool, true, false, ◌||◌, eqb, ltb, List, [], ◌∷◌, length, get_or, drop, set, replicate, Decides, sym, refl, ap, ◌∙◌, subst, ⊎_elim, arith}
+use Rattle.std.proofs.Common.{◌≡◌, ℕ, ◌+◌, ◌<◌, Bool, true, false, ◌||◌, eqb, ltb, List, [], ◌∷◌, length, get_or, drop, set, replicate, Decides, ◌↔◌, sym, refl, ap, ◌∙◌, subst, ⊎_elim, arith}
 use Rattle.std.specs.List.{AllByRecursion}
 use Rattle.std.proofs.lemmas.List.{ext_get_or, at_drop_all, at_drop_more, length-replicate, length-set}
 use Rattle.std.proofs.lemmas.Bool.{and_parts, or_cases, or_left, or_right, ltb-true, eqb-true, eq-eqb, false≢true}
@@ -38,9 +38,16 @@ on_each P (b ∷ bs) fits f =
     (f b (ltb-true b 96 p.0) (or_left (eqb b b) (among b bs) (eq-eqb b b refl)), on_each P bs p.1 (λ a below e. f a below (or_right (eqb a b) (among a bs) e)))
 
 -- the rule fires as its rows say
+fires_as : (x s : Row) (r : Rule) → rule_fits 96 r ≡ true → FiresIn x s (in_rows r) ↔ (Kept x r × PlainIn s r)
+fires_as x s r fits =
+    let k = kept 96 r fits in (
+      λ f. (on_each _ r.negated k.negated (λ a below e h. f.0 a (listed_mark r.negated a below ∙ e) h), on_each _ r.plain k.plain (λ a below e. f.1 a (listed_mark r.plain a below ∙ e))),
+      λ f. (λ a h. each_on _ r.negated f.0 a (listed_among r.negated a h), λ a h. each_on _ r.plain f.1 a (listed_among r.plain a h)),
+    )
+
 pub fires_in : (x s : Row) (r : Rule) (b : Bool) → rule_fits 96 r ≡ true → Decides b (FiresIn x s (in_rows r)) → Decides b (Kept x r × PlainIn s r)
-fires_in x s r b fits =
-    let k = kept 96 r fits in
-    Decides-like b
-    (λ f. (on_each _ r.negated k.negated (λ a below e h. f.0 a (listed_mark r.negated a below ∙ e) h), on_each _ r.plain k.plain (λ a below e. f.1 a (listed_mark r.plain a below ∙ e))))
-    (λ f. (λ a h. each_on _ r.negated f.0 a (listed_among r.negated a h), λ a h. each_on _ r.plain f.1 a (listed_among r.plain a h)))
+fires_in x s r b fits = let as' = fires_as x s r fits in Decides-like b as'.0 as'.1
+
+-- the same with a condition besides
+pub fires_with : (P : Type 0) (x s : Row) (r : Rule) (b : Bool) → rule_fits 96 r ≡ true → Decides b (P × FiresIn x s (in_rows r)) → Decides b (P × (Kept x r × PlainIn s r))
+fires_with P x s r b fits = let as' = fires_as x s r fits in Decides-like b (λ (p, f). (p, as'.0 f)) (λ (p, f). (p, as'.1 f))

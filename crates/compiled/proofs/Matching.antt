@@ -1,20 +1,22 @@
 -- The masks at a place tell the rule that stands there.
-use Rattle.std.proofs.Common.{◌≡◌, ℕ, ◌<◌, Bool, true, leb, List, [], ◌∷◌, length, get_or, map, Decides, sym, ap, ◌∙◌, subst, arith}
+use Rattle.std.proofs.Common.{◌≡◌, ℕ, ◌<◌, Bool, true, ◌&&◌, leb, List, [], ◌∷◌, length, get_or, map, Decides, sym, ap, ◌∙◌, subst, arith}
 use Rattle.std.proofs.lemmas.List.{get_or-map, get_or_default, length-map}
 use Rattle.std.proofs.lemmas.Bool.{and_parts}
-use Rattle.std.proofs.lemmas.Bool.Decides.{same_from_decides}
+use Rattle.std.proofs.lemmas.Bool.Decides.{same_from_decides, Decides-and}
 use Rattle.game.specs.Sets.{Row}
-use Rattle.game.specs.Rules.{Rule}
+use Rattle.game.specs.Rules.{Rule, none, Kept, PlainIn}
 use Rattle.game.specs.Derives.{fires}
 use Rattle.game.proofs.Deriving.{fires_decides}
 use Rattle.programs.specs.Limits.{all_fit, fits, rule_fits}
 use Rattle.programs.specs.Model.{head_model, model, models}
 use Rattle.programs.specs.declared.rule.Rule as code
+use Rattle.solving.specs.Tests.{constraint}
 use Rattle.solving.proofs.Breaking.{rule_at}
+use Rattle.solving.proofs.Testing.{constraint_decides}
 use Rattle.compiled.specs.declared.rule.MaskRule.{MaskRule}
 use Rattle.compiled.specs.Listed.{RowRule, in_rows}
 use Rattle.compiled.specs.Rules.{mask_rule, FiresIn}
-use Rattle.compiled.proofs.Listing.{fires_in}
+use Rattle.compiled.proofs.Listing.{fires_in, fires_with}
 
 some_at : (rs : List code.Rule) (i : ℕ) → i < length rs → code.Rule
 some_at [] i inside = absurd (omega arith)
@@ -59,3 +61,11 @@ same_fires x s t b d =
 
 pub same_head : {rs : List code.Rule} {i : ℕ} {m : MaskRule} (t : Told rs i m) → head_model m.head ≡ (model t.rule).head
 same_head t = ap (λ (r : RowRule). r.head) t.same
+
+-- whether the masks say that the rule is a constraint that is broken
+pub same_broken : (x s : Row) {rs : List code.Rule} {i : ℕ} {m : MaskRule} (t : Told rs i m) (b : Bool) → Decides b ((head_model m.head ≡ none) × FiresIn x s (mask_rule m)) → b ≡ (constraint (model t.rule).head && fires x s (model t.rule))
+same_broken x s {m = m} t b d =
+    let r : Rule = model t.rule in
+    let same : Decides b ((r.head ≡ none) × (Kept x r × PlainIn s r)) =
+    fires_with (r.head ≡ none) x s r b t.fits (subst (λ (q : RowRule). Decides b ((q.head ≡ none) × FiresIn x s q)) t.same d) in
+    same_from_decides b (constraint r.head && fires x s r) same (Decides-and (constraint r.head) (fires x s r) (constraint_decides r.head) (fires_decides x s r))

@@ -10,6 +10,7 @@ use crate::masks::Masks;
 use crate::step::MaskReduct;
 use closure::closing::closure;
 use closure::mask::Mask;
+use closure::set::AtomSet;
 use programs::program::Program;
 
 #[derive(Clone, Copy)]
@@ -26,5 +27,31 @@ impl MaskJob<'_> {
         ensures { Smallest (rules_of self.now.program.now) (bit_row self.now.given.bits) (bit_row against.bits) (bit_row result.bits) }
     {
         closure(&MaskReduct { job: *self, against }, &self.given)
+    }
+
+    // Has some constraint none of its negated atoms in `against`, and all its plain atoms in `from`?
+    pub fn breaks(&self, against: Mask, from: Mask) -> bool
+        ensures { Decides result (Broken (rules_of self.now.program.now) (bit_row against.bits) (bit_row from.bits)) }
+    {
+        for rule in self.masks.rules() {
+            if rule.is_broken(against, from) {
+                return true;
+            }
+        }
+        false
+    }
+
+    // Is the set an answer set of the program with these atoms given?
+    pub fn is_answer_set(&self, set: Mask) -> bool
+        ensures { Decides result (AnswerSet (rules_of self.now.program.now) (bit_row self.now.given.bits) (bit_row set.bits)) }
+    {
+        if !set.is_within(self.masks.heads()) {
+            return false;
+        }
+        let all = set.union(self.given);
+        if !self.least(all).same(&all) {
+            return false;
+        }
+        !self.breaks(all, all)
     }
 }

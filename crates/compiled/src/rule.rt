@@ -1,7 +1,8 @@
 // A rule as masks.
 ghost use Rattle.std.specs.Prelude.{◌≡◌, Decides};
 ghost use Rattle.closure.specs.Bits.{bit_row};
-ghost use Rattle.programs.specs.Model.{model};
+ghost use Rattle.game.specs.Rules.{none};
+ghost use Rattle.programs.specs.Model.{head_model, model};
 ghost use Rattle.compiled.specs.Listed.{listed, in_rows};
 ghost use Rattle.compiled.specs.Rules.{mask_rule, FiresIn};
 
@@ -52,5 +53,12 @@ impl MaskRule {
         ensures { Decides result (FiresIn (bit_row against.bits) (bit_row from.bits) (mask_rule self.now)) }
     {
         self.negated.is_apart(against) && self.plain.is_within(from)
+    }
+
+    // The same, of a constraint.
+    pub(crate) fn is_broken(&self, against: Mask, from: Mask) -> bool
+        ensures { Decides result ((head_model self.now.head ≡ none) × FiresIn (bit_row against.bits) (bit_row from.bits) (mask_rule self.now)) }
+    {
+        self.head.is_none() && self.fires(against, from)
     }
 }

@@ -12,7 +12,7 @@ use Rattle.programs.proofs.Fitting.{kept}
 use Rattle.solving.specs.Tests.{constraint, violated, violated_on}
 use Rattle.solving.specs.Bounds.{Broken}
 
-constraint_decides : (h : Head) → Decides (constraint h) (h ≡ none)
+pub constraint_decides : (h : Head) → Decides (constraint h) (h ≡ none)
 constraint_decides none = (λ _. refl, λ _. refl)
 constraint_decides (atom a) = (λ e. cc, λ e. cc)
 

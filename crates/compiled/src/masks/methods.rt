@@ -32,4 +32,11 @@ impl Masks {
     {
         &self.rules[0..self.count]
     }
+
+    // The heads.
+    pub fn heads(&self) -> Mask
+        ensures { result ≡ self.now.heads }
+    {
+        self.heads
+    }
 }
