@@ -1,12 +1,12 @@
 -- Sets as the bits of a number, and what the operations on bits make of them.
-use Rattle.std.proofs.Common.{◌≡◌, ℕ, ◌<◌, ◌≤◌, ◌-◌, ◌*◌, ◌%◌, ◌^◌, true, false, not, ◌&&◌, ◌||◌, ◌==◌, ◌≢◌, max, min, length, get_or, set, replicate, eqb, sym, ap, subst, ◌∙◌, ⊎_elim, Decides, arith}
+use Rattle.std.proofs.Common.{◌≡◌, ℕ, ◌<◌, ◌≤◌, ◌-◌, ◌*◌, ◌%◌, ◌^◌, true, false, not, ◌&&◌, ◌||◌, ◌==◌, ◌≢◌, max, min, length, get_or, set, replicate, eqb, ltb, sym, ap, subst, ◌∙◌, ⊎_elim, Decides, arith}
 use Rattle.std.proofs.lemmas.List.{ext_get_or, get_or_past, get_or-set_same, get_or-set_other, get_or-replicate, length-replicate, length-set}
-use Rattle.std.proofs.lemmas.Bool.{cases_lt, cases_eq, eqb-true, eq-eqb}
+use Rattle.std.proofs.lemmas.Bool.{cases_lt, cases_eq, eqb-true, eq-eqb, lt-ltb, le-ltb}
 use Rattle.std.proofs.lemmas.Bool.Decides.{nat_tests}
 use Rattle.std.specs.Int.{bit_at, bit_not, w128, trailing_zeros}
 use Rattle.std.specs.Int.RustNames.{bit_and, bit_or}
 use Rattle.std.proofs.lemmas.Nat.{and_le_l, or_lt, one_shl, pow_below}
-use Rattle.std.proofs.lemmas.Nat.Bits.{bit_at_above, bit_at-lt, bit_at-zero, bit_at_and, bit_at_or, bit_at_not, bit_at_set_same, bit_at_set_other, bit_at-trailing_zeros, same_from_bits_below}
+use Rattle.std.proofs.lemmas.Nat.Bits.{bit_at_above, bit_at-lt, bit_at-zero, bit_at_and, bit_at_or, bit_at_not, bit_at_set_same, bit_at_set_other, bit_at_ones, bit_at_ones_above, bit_at-trailing_zeros, same_from_bits_below}
 use Rattle.game.specs.Sets.{Row, In, Within, union}
 use Rattle.closure.specs.Rows.{minus}
 use Rattle.closure.specs.Bits.{bit_row, length-bit_row}
@@ -136,3 +136,16 @@ lowest_bit n small some =
     let wide : n < 2 ^ 128 = omega (arith, small) in
     let found = bit_at-trailing_zeros w128 n some wide in
     (in_from_bit n (trailing_zeros w128 n) small found.1, λ j less h. let one = bit_from_in n j small h in let none = found.2 j less in absurd (omega (arith, one, none)))
+
+-- the atoms below k
+module _ (k : ℕ) (few : k ≤ 96) where
+  made : 1 * 2 ^ k % 2 ^ 128 ≡ 2 ^ k
+  made = one_shl k 128 (omega (arith, few))
+
+  pub below_small : 1 * 2 ^ k % 2 ^ 128 - 1 < 2 ^ 96
+  below_small = ⊎_elim (λ less. let p = pow_below k 96 less in omega (arith, p, made)) (λ more. let last : k ≡ 96 = omega (arith, few, more) in let all : 2 ^ k ≡ 2 ^ 96 = ap (λ n. 2 ^ n) last in omega (arith, all, made)) (cases_lt k 96)
+
+  pub below_mark : (j : ℕ) → j < 96 → get_or (bit_row (1 * 2 ^ k % 2 ^ 128 - 1)) j false ≡ ltb j k
+  below_mark j inside =
+      mark_below (1 * 2 ^ k % 2 ^ 128 - 1) j inside ∙ ap (λ n. bit_at (n - 1) j == 1) made
+      ∙ ⊎_elim (λ less. ap (λ x. x == 1) (bit_at_ones k j less) ∙ sym (lt-ltb j k less)) (λ more. ap (λ x. x == 1) (bit_at_ones_above k j more) ∙ sym (le-ltb j k more)) (cases_lt j k)

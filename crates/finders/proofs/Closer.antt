@@ -41,9 +41,7 @@ module _ {rules : List Rule} {given low high i : Row} (b : Between rules given l
 -- what may be in an answer set, as the code lessens it to h: u is derived from the reduct for low
 pub record Lessening (n : ℕ) (rules : List Rule) (given low high u h : Row) : Type 0 where
   pub given_wide : length given ≡ n
-  pub low_wide : length low ≡ n
   pub u_wide : length u ≡ n
-  pub h_wide : length h ≡ n
   pub derivable : Smallest rules given low u
   pub h_is : h ≡ minus high (minus high u)
 
@@ -55,19 +53,17 @@ module _ {n : ℕ} {rules : List Rule} {given low high u h : Row} (w : Lessening
   still_below i b a inside = subst (In a) (sym w.h_is) (in_both high u a (b.below a inside) (derivable_above b u (w.u_wide ∙ sym (united i b)) w.derivable a inside))
 
   -- what is in every answer set between the bounds lies within h, or there is none
-  outside : (l : Row) → length l ≡ n → ((i : Row) → Between rules given low high i → Within l (union i given)) → (union l h ≡ h → ⊥) → (i : Row) → Between rules given low high i → ⊥
-  outside l wide above differ i b =
-      differ (same_rows (union l h) h (length-union n l h wide w.h_wide ∙ sym w.h_wide) (λ a inside. ⊎_elim (λ must. still_below i b a (above i b a must)) (λ may. may) (in_union l h a inside)) (union_right l h))
+  outside : (l : Row) → ((i : Row) → Between rules given low high i → Within l (union i given)) → (Within l h → ⊥) → (i : Row) → Between rules given low high i → ⊥
+  outside l above differ i b = differ (λ a must. still_below i b a (above i b a must))
 
   -- what is settled and cannot be derived
-  pub underived_none : (union low h ≡ h → ⊥) → (i : Row) → Between rules given low high i → ⊥
-  underived_none = outside low w.low_wide (λ i b. b.above)
+  pub underived_none : (Within low h → ⊥) → (i : Row) → Between rules given low high i → ⊥
+  underived_none = outside low (λ i b. b.above)
 
 -- then what must be, to l: v is derived from the reduct for h
 pub record Narrowing (n : ℕ) (rules : List Rule) (given low high u v l h : Row) : Type 0 where
   pub less : Lessening n rules given low high u h
   pub v_wide : length v ≡ n
-  pub l_wide : length l ≡ n
   pub derived : Smallest rules given h v
   pub l_is : l ≡ union low v
 
@@ -76,15 +72,15 @@ module _ {n : ℕ} {rules : List Rule} {given low high u v l h : Row} (w : Narro
   still_above i b a inside = ⊎_elim (b.above a) (derived_below b h v (w.v_wide ∙ sym (united w.less i b)) (still_below w.less i b) w.derived a) (in_union low v a (subst (In a) w.l_is inside))
 
   -- what must be derived and cannot be
-  pub crossed_none : (union l h ≡ h → ⊥) → (i : Row) → Between rules given low high i → ⊥
-  crossed_none = outside w.less l w.l_wide still_above
+  pub crossed_none : (Within l h → ⊥) → (i : Row) → Between rules given low high i → ⊥
+  crossed_none = outside w.less l still_above
 
   pub broken_none : Broken rules h l → (i : Row) → Between rules given low high i → ⊥
   broken_none broken i b = not_broken b h l (still_below w.less i b) (still_above i b) broken
 
-  pub narrower : union l h ≡ h → Narrower rules given low high l h
+  pub narrower : Within l h → Narrower rules given low high l h
   narrower inside = record {
-    ordered = λ a must. subst (In a) inside (union_left l h a must);
+    ordered = inside;
     more = λ a inside. subst (In a) (sym w.l_is) (union_left low v a inside);
     fewer = λ a inside. both_left high u a (subst (In a) w.less.h_is inside);
     same = λ i b. record { answer = b.answer; above = still_above i b; below = still_below w.less i b };

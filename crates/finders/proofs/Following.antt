@@ -4,6 +4,8 @@ use Rattle.game.specs.Sets.{Row, In, union}
 use Rattle.game.specs.Rules.{Rule}
 use Rattle.game.specs.AnswerSets.{AnswerSet}
 use Rattle.closure.specs.declared.row.Row as code
+use Rattle.closure.specs.declared.mask.Mask.{Mask}
+use Rattle.closure.specs.Bits.{bit_row}
 use Rattle.closure.proofs.Marks.{in_union, union_left, union_right}
 use Rattle.finders.specs.declared.finder.Refusal.TheVariants.{Unlisted}
 use Rattle.finders.specs.Meanings.{From, start, after}
@@ -11,6 +13,7 @@ use Rattle.finders.specs.Jobs.{HeadsTaken}
 use Rattle.finders.specs.Orders.{Lexical, branching_order}
 use Rattle.finders.specs.Supplied.{branching_lists}
 use Rattle.finders.specs.Between.{Between, First, Follows}
+use Rattle.finders.specs.Found.{AsRow}
 use Rattle.finders.specs.Going.{GoesOn, NotListed, not_listed}
 use Rattle.finders.proofs.Sorted.{first_entry, first_end, next_entry, next_end}
 use Rattle.finders.proofs.Lexical.{never_both, branching_sorted}
@@ -19,6 +22,13 @@ use Rattle.finders.proofs.Turning.{made_of_heads}
 -- a first row with P, or none with it
 abbrev pub FirstOrNone : {n : ℕ} → (Row → Type 0) → Option (code.Row n) → Type 0
 FirstOrNone P found = MatchOption found ((z : Row) → P z → ⊥) (λ x. First P x.marks)
+
+-- what is found as a mask, as a row
+pub found_as_row : (P : Row → Type 0) (found : Option Mask) (row : Option (code.Row 96)) → AsRow found row → MatchOption found ((z : Row) → P z → ⊥) (λ x. First P (bit_row x.bits)) → FirstOrNone P row
+found_as_row P None None is none = none
+found_as_row P None (Some r) is none = absurd is
+found_as_row P (Some m) None is first = absurd is
+found_as_row P (Some m) (Some r) is first = subst (First P) (sym is) first
 
 module _ (n most : ℕ) (rules : List Rule) (given heads : Row) (known : HeadsTaken n most rules given heads) where
   -- every answer set lies between the given atoms, and those with all heads

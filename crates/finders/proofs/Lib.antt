@@ -4,7 +4,6 @@ pub mod Jobs
 pub mod Takings
 pub mod Closer
 pub mod Maybe
-pub mod Least
 pub mod Splitting
 pub mod Turning
 pub mod Answering

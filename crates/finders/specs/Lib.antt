@@ -7,3 +7,4 @@ pub mod Asked
 pub mod Going
 pub mod Upward
 pub mod Listings
+pub mod Found

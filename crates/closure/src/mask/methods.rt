@@ -1,5 +1,5 @@
 // What is asked of a mask, as of a row.
-ghost use Rattle.std.specs.Prelude.{◌≡◌, ℕ, ◌<◌, false, true, Decides, MatchOption, replicate, slice_index_or, slice_set};
+ghost use Rattle.std.specs.Prelude.{◌≡◌, ℕ, ◌<◌, false, true, Decides, MatchOption, nat_lt, replicate, slice_index_or, slice_set};
 ghost use Rattle.game.specs.Sets.{In, Within, union as united};
 ghost use Rattle.closure.specs.Bits.{bit_row, length-bit_row};
 ghost use Rattle.closure.specs.Rows.{minus as less};
@@ -14,6 +14,15 @@ impl Mask {
         ensures { bit_row result.bits ≡ replicate 96 false }
     {
         Mask { bits: 0 }
+    }
+
+    // The atoms below this one.
+    pub fn below(atom: u16) -> Mask
+        ensures { (j : ℕ) → j < 96 → slice_index_or (bit_row result.bits) j false ≡ nat_lt j atom }
+    {
+        Mask {
+            bits: (1 << atom.min(96)) - 1,
+        }
     }
 
     // The set that the row has.
