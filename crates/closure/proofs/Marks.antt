@@ -1,8 +1,8 @@
 -- Rows of marks, place by place.
-use Rattle.std.proofs.Common.{◌≡◌, ℕ, zero, suc, ◌<◌, ◌≤◌, Bool, true, false, cond, not, ◌&&◌, ◌||◌, ◌⊎◌, [], ◌∷◌, length, get_or, sym, refl, ap, subst, ◌∙◌, ⊎_elim, arith}
-use Rattle.std.proofs.lemmas.List.{ext_get_or, get_or_past}
-use Rattle.std.proofs.lemmas.Bool.{cases_lt, cases_Bool, both_ways, false≢true, or_cases, or_left, or_right, and_parts, and_from, not-true, not_from_false}
-use Rattle.std.proofs.Math.Bool.{beq}
+use Rattle.std.proofs.Common.{◌≡◌, ℕ, zero, suc, ◌<◌, ◌≤◌, Bool, true, false, cond, not, ◌&&◌, ◌||◌, ◌⊎◌, [], ◌∷◌, length, get_or, set, eqb, sym, refl, ap, subst, ◌∙◌, ⊎_elim, arith}
+use Rattle.std.proofs.lemmas.List.{ext_get_or, get_or_past, get_or-set_same, get_or-set_other}
+use Rattle.std.proofs.lemmas.Bool.{cases_lt, cases_eq, cases_Bool, eq-eqb, ne_eqb, both_ways, false≢true, or_cases, or_left, or_right, and_parts, and_from, not-true, not_from_false}
+use Rattle.std.proofs.Math.Bool.{beq, or-true, or-false}
 use Rattle.std.proofs.lemmas.List.Recursion.{is_count_by}
 use Rattle.std.specs.Bool.{Decides}
 use Rattle.std.specs.Cmp.{booleans_Decides}
@@ -96,6 +96,14 @@ get_or-row (suc n) f (suc a) less = get_or-row n (λ b. f (suc b)) a (omega arit
 
 pub row_from : (n : ℕ) (f : ℕ → Bool) (s : Row) → length s ≡ n → ((a : ℕ) → a < n → get_or s a false ≡ f a) → s ≡ row n f
 row_from n f s wide each = ext_get_or false s (row n f) (wide ∙ sym (length-row n f)) (λ a less. let inside : a < n = omega arith in each a inside ∙ sym (get_or-row n f a inside))
+
+-- one mark more
+pub marked_more : (s : Row) (h a : ℕ) → a < length s → get_or (set s h true) a false ≡ (get_or s a false || eqb a h)
+marked_more s h a less =
+    ⊎_elim
+    (λ same. ap (λ b. get_or (set s b true) a false) (sym same) ∙ get_or-set_same s a true false less ∙ sym (ap (λ b. get_or s a false || b) (eq-eqb a h same) ∙ or-true (get_or s a false)))
+    (λ other. get_or-set_other s h a true false other ∙ sym (ap (λ b. get_or s a false || b) (ne_eqb a h other) ∙ or-false (get_or s a false)))
+    (cases_eq a h)
 
 -- Inclusion and counts.
 

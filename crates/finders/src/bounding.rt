@@ -8,7 +8,7 @@ ghost use Rattle.game.specs.Rules.{is_head};
 ghost use Rattle.game.specs.Sets.{Row as Marks, In, Within};
 
 use closure::mask::Mask;
-use compiled::job::MaskJob;
+use masked::job::MaskJob;
 
 // What is in every answer set in question, with the given atoms, none of which is a head; and what may be in one.
 #[derive(Clone, Copy)]

@@ -19,8 +19,7 @@ use crate::taken::heads_taken;
 use crate::writing::written;
 use closure::mask::Mask;
 use closure::row::Row;
-use compiled::job::MaskJob;
-use compiled::masks::Masks;
+use masked::job::MaskJob;
 use programs::program::Program;
 use solving::job::Job;
 
@@ -84,12 +83,12 @@ impl<'a> Branched<'a> {
     // The bounds of the sets that agree with the entry below the atom, and have it.
     fn turned(&self, entry: Mask, atom: u16) -> Bounds<'a>
         requires { atom < 96 }
-        ensures { (result.job ≡ self.now.job) × Turned (bit_row self.now.job.given.bits) (bit_row self.now.job.masks.now.heads.bits) (bit_row entry.bits) atom (bit_row result.low.bits) (bit_row result.high.bits) }
+        ensures { (result.job ≡ self.now.job) × Turned (bit_row self.now.job.given.bits) (bit_row self.now.job.program.now.masks.heads.bits) (bit_row entry.bits) atom (bit_row result.low.bits) (bit_row result.high.bits) }
     {
         let below = Mask::below(atom);
         let kept = entry.minus(entry.minus(below));
         let low = kept.union(self.job.given).with(atom);
-        let high = low.union(self.job.masks.heads().minus(below));
+        let high = low.union(self.job.program.masks().heads().minus(below));
         Bounds {
             job: self.job,
             low,
@@ -102,7 +101,7 @@ impl<'a> Branched<'a> {
         requires { AnswerSet (rules_of self.now.job.program.now) (bit_row self.now.job.given.bits) (bit_row entry.bits) }
         ensures { MatchOption result ((z : Marks) → Follows (rules_of self.now.job.program.now) (bit_row self.now.job.given.bits) (bit_row entry.bits) z → ⊥) (λ x. First (Follows (rules_of self.now.job.program.now) (bit_row self.now.job.given.bits) (bit_row entry.bits)) (bit_row x.bits)) }
     {
-        let open = self.job.masks.heads().minus(entry);
+        let open = self.job.program.masks().heads().minus(entry);
         for atom in (0..96).rev() {
             if open.has(atom) {
                 if let Some(set) = self.turned(entry, atom).search() {
@@ -121,7 +120,7 @@ impl<'a> Branched<'a> {
             let whole = Bounds {
                 job: self.job,
                 low: self.job.given,
-                high: self.job.given.union(self.job.masks.heads()),
+                high: self.job.given.union(self.job.program.masks().heads()),
             };
             return Ok(as_row(whole.search()));
         };
@@ -155,11 +154,9 @@ impl Finder<96> for Branching {
     ) -> Result<Found, Refusal> {
         let job = Job { program, given };
         heads_taken(job, AT_MOST)?;
-        let masks = Masks::of(program);
         let branched = Branched {
             job: MaskJob {
                 program,
-                masks: &masks,
                 given: Mask::of(given),
             },
         };

@@ -1,3 +1,4 @@
 pub mod Scans
 pub mod Fitting
 pub mod Tests
+pub mod Listing

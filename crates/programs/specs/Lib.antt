@@ -1,3 +1,6 @@
 pub mod Model
 pub mod Limits
 pub mod Programs
+pub mod Listed
+pub mod MaskRules
+pub mod Masked

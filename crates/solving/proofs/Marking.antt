@@ -12,14 +12,6 @@ use Rattle.programs.specs.declared.rule.Rule as code
 use Rattle.programs.specs.Model.{model, models}
 use Rattle.solving.specs.Tests.{headed_by}
 
--- one mark more
-pub marked_more : (s : Row) (h a : ℕ) → a < length s → get_or (set s h true) a false ≡ (get_or s a false || eqb a h)
-marked_more s h a less =
-    ⊎_elim
-    (λ same. ap (λ b. get_or (set s b true) a false) (sym same) ∙ get_or-set_same s a true false less ∙ sym (ap (λ b. get_or s a false || b) (eq-eqb a h same) ∙ or-true (get_or s a false)))
-    (λ other. get_or-set_other s h a true false other ∙ sym (ap (λ b. get_or s a false || b) (ne_eqb a h other) ∙ or-false (get_or s a false)))
-    (cases_eq a h)
-
 shift : (x y z : Bool) → ((x || y) || z) ≡ (x || ((y && true) || z))
 shift true y z = refl
 shift false true z = refl

@@ -6,6 +6,7 @@ ghost use Rattle.programs.specs.Model.{models};
 ghost use Rattle.programs.specs.Programs.{rules_of};
 
 use super::Program;
+use crate::masks::Masks;
 use crate::rule::Rule;
 
 // Does every rule keep the limits?
@@ -33,7 +34,8 @@ impl<const N: usize> Program<N> {
         if !all_fit(rules.as_slice(), N) {
             return None;
         }
-        Some(Program { rules })
+        let masks = Masks::of(rules.as_slice());
+        Some(Program { rules, masks })
     }
 
     // The rules in the order of the text.
@@ -41,6 +43,13 @@ impl<const N: usize> Program<N> {
         ensures { models result.now ≡ rules_of self.now }
     {
         self.rules.as_slice()
+    }
+
+    // The rules as masks.
+    pub fn masks(&self) -> &Masks
+        ensures { result.now ≡ self.now.masks }
+    {
+        &self.masks
     }
 
     // Does the atom stand anywhere in the program?

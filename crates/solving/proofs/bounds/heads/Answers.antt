@@ -2,7 +2,8 @@ use Rattle.std.proofs.Common.{◌≡◌, ◌+◌, ◌<◌, true, false, ◌||◌
 use Rattle.game.specs.Rules.{is_head}
 use Rattle.programs.specs.Model.{head_model, models}
 use Rattle.solving.specs.Tests.{headed_by}
-use Rattle.solving.proofs.Marking.{picked_heads, clear_mark, marked_more, with_head, headless, none_left}
+use Rattle.closure.proofs.Marks.{marked_more}
+use Rattle.solving.proofs.Marking.{picked_heads, clear_mark, with_head, headless, none_left}
 use Rattle.solving.proofs.bounds.heads.Goals as goal
 use Rattle.solving.proofs.bounds.heads.Goals.{in-Some, in_default}
 

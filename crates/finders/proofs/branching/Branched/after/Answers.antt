@@ -5,7 +5,8 @@ use Rattle.closure.specs.Bits.{bit_row, length-bit_row}
 use Rattle.closure.specs.Rows.{minus}
 use Rattle.closure.proofs.Marks.{in_below}
 use Rattle.programs.specs.Programs.{rules_of}
-use Rattle.compiled.specs.declared.job.MaskJob.{MaskJob}
+use Rattle.programs.specs.declared.masks.Masks.{Masks}
+use Rattle.masked.specs.declared.job.MaskJob.{MaskJob}
 use Rattle.finders.specs.Between.{Between, First}
 use Rattle.finders.proofs.Takings.{taken_of}
 use Rattle.finders.proofs.Turning.{NoneFrom, none_shut, none_turned, none_after, first_turned}
@@ -36,14 +37,14 @@ loop-atom-init c = (
 pub returns-in-Some : goal.returns-in-Some
 returns-in-Some c =
     let none = none_from c.args.self.now.job (bit_row c.args.entry.bits) c.loop-atom.atom c.loop-atom-test.true c.loop-atom.invariant.1 in
-    let turn = turned_at (bit_row c.args.self.now.job.masks.now.heads.bits) (bit_row c.args.entry.bits) _ (c.minus-open.ensures ∙ ap (λ m. minus (bit_row m.bits) (bit_row c.args.entry.bits)) c.heads.ensures) _ _ c.has.ensures c.if-has.true in
+    let turn = turned_at (bit_row c.args.self.now.job.program.now.masks.heads.bits) (bit_row c.args.entry.bits) _ (c.minus-open.ensures ∙ ap (λ m. minus (bit_row m.bits) (bit_row c.args.entry.bits)) (c.heads.ensures ∙ ap (λ (m : Masks). m.heads) c.masks.ensures)) _ _ c.has.ensures c.if-has.true in
     first_turned 96 96 _ _ _ _ (taken_of c.args.self.now) c.requires _ _ _ c.turned.ensures.1 turn none (bit_row c.in-Some.set.bits)
     (subst (λ j. First (Between (rules_of j.program.now) (bit_row j.given.bits) (bit_row c.turned.result.low.bits) (bit_row c.turned.result.high.bits)) (bit_row c.in-Some.set.bits)) c.turned.ensures.0 c.in-Some.ensures)
 
 pub loop-atom-preserved-in_default : goal.loop-atom-preserved-in_default
 loop-atom-preserved-in_default c =
     let none = none_from c.args.self.now.job (bit_row c.args.entry.bits) c.loop-atom.atom c.loop-atom-test.true c.loop-atom.invariant.1 in
-    let turn = turned_at (bit_row c.args.self.now.job.masks.now.heads.bits) (bit_row c.args.entry.bits) _ (c.minus-open.ensures ∙ ap (λ m. minus (bit_row m.bits) (bit_row c.args.entry.bits)) c.heads.ensures) _ _ c.has.ensures c.if-has.true in (
+    let turn = turned_at (bit_row c.args.self.now.job.program.now.masks.heads.bits) (bit_row c.args.entry.bits) _ (c.minus-open.ensures ∙ ap (λ m. minus (bit_row m.bits) (bit_row c.args.entry.bits)) (c.heads.ensures ∙ ap (λ (m : Masks). m.heads) c.masks.ensures)) _ _ c.has.ensures c.if-has.true in (
       omega (arith, c.loop-atom.invariant.0),
       none_turned 96 96 _ _ _ _ (taken_of c.args.self.now) c.requires _ _ _ c.turned.ensures.1 turn none
           (subst (λ j. (i : Row) → Between (rules_of j.program.now) (bit_row j.given.bits) (bit_row c.turned.result.low.bits) (bit_row c.turned.result.high.bits) i → ⊥) c.turned.ensures.0 c.in_default.ensures),
@@ -54,7 +55,7 @@ loop-atom-preserved c =
     let none = none_from c.args.self.now.job (bit_row c.args.entry.bits) c.loop-atom.atom c.loop-atom-test.true c.loop-atom.invariant.1 in (
       omega (arith, c.loop-atom.invariant.0),
       none_shut 96 96 _ _ _ _ (taken_of c.args.self.now) c.requires _ none
-          (λ turn. both_ways c.has.result c.if-has.false (c.has.ensures ∙ ap (λ s. get_or s (c.loop-atom.atom - 1) false) (c.minus-open.ensures ∙ ap (λ m. minus (bit_row m.bits) (bit_row c.args.entry.bits)) c.heads.ensures) ∙ turn)),
+          (λ turn. both_ways c.has.result c.if-has.false (c.has.ensures ∙ ap (λ s. get_or s (c.loop-atom.atom - 1) false) (c.minus-open.ensures ∙ ap (λ m. minus (bit_row m.bits) (bit_row c.args.entry.bits)) (c.heads.ensures ∙ ap (λ (m : Masks). m.heads) c.masks.ensures)) ∙ turn)),
     )
 
 pub returns : goal.returns

@@ -4,6 +4,7 @@ use Rattle.game.specs.Sets.{Row, union}
 use Rattle.game.specs.AnswerSets.{AnswerSet}
 use Rattle.closure.specs.Bits.{bit_row}
 use Rattle.programs.specs.Programs.{rules_of}
+use Rattle.programs.specs.declared.masks.Masks.{Masks}
 use Rattle.finders.specs.Meanings.{after}
 use Rattle.finders.specs.Asked.{from}
 use Rattle.finders.specs.Between.{Between, Follows}
@@ -17,8 +18,8 @@ returns-in_default c =
     let rules = rules_of job.program.now in
     let given = bit_row job.given.bits in
     let high = bit_row c.union.result.bits in
-    goes_from_start 96 96 rules given (bit_row job.masks.now.heads.bits) (taken_of c.args.self.now)
-    high (c.union.ensures ∙ ap (λ m. union given (bit_row m.bits)) c.heads.ensures) (from c.args.earlier) (ap from c.in_default.is) c.as_row.result (found_as_row (Between rules given given high) c.search.result c.as_row.result c.as_row.ensures c.search.ensures)
+    goes_from_start 96 96 rules given (bit_row job.program.now.masks.heads.bits) (taken_of c.args.self.now)
+    high (c.union.ensures ∙ ap (λ m. union given (bit_row m.bits)) (c.heads.ensures ∙ ap (λ (m : Masks). m.heads) c.masks.ensures)) (from c.args.earlier) (ap from c.in_default.is) c.as_row.result (found_as_row (Between rules given given high) c.search.result c.as_row.result c.as_row.ensures c.search.ensures)
 
 pub returns-then-not-is_answer_set : goal.returns-then-not-is_answer_set
 returns-then-not-is_answer_set c =

@@ -1,7 +1,8 @@
 use Rattle.std.proofs.Common.{◌≡◌, ◌+◌, ◌<◌, false, ◌||◌, length, get_or, drop, sym, ap, ◌∙◌, arith}
 use Rattle.programs.specs.Model.{head_model, models}
 use Rattle.solving.specs.Tests.{headed_by}
-use Rattle.solving.proofs.Marking.{marked_more, with_head, unpicked, headless, none_left}
+use Rattle.closure.proofs.Marks.{marked_more}
+use Rattle.solving.proofs.Marking.{with_head, unpicked, headless, none_left}
 use Rattle.solving.proofs.picking.PickedStepRow.mark.Goals as goal
 use Rattle.solving.proofs.picking.PickedStepRow.mark.Goals.{in-Some+then-picks, in-Some+else-picks, in_default}
 

@@ -1,9 +1,0 @@
-use Rattle.std.proofs.Common.{◌≡◌, length, map, take}
-use Rattle.programs.specs.Model.{models}
-use Rattle.compiled.specs.Listed.{in_rows}
-use Rattle.compiled.specs.Rules.{mask_rule}
-use Rattle.compiled.proofs.masks.Masks.of.Given as goal
-
--- the masks so far are the rules so far
-abbrev pub invariant-loop-place : goal.invariant-loop-place
-invariant-loop-place l = (length l.rules ≡ 256) × (map mask_rule (take l.place l.rules) ≡ map in_rows (models (take l.place l.rule-items)))
