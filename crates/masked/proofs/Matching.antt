@@ -54,10 +54,9 @@ module _ (rs : List code.Rule) (ms : List MaskRule) (fit : all_fit 96 (models rs
             ∙ get_or-map in_rows (models rs) i (model d) (mask_rule m) (omega (arith, inside, length-map rs model)) ∙ ap in_rows (get_or-map model rs i d (model d) inside);
       }
 
--- whether the masks say that the rule fires
-pub same_fires : (x s : Row) {rs : List code.Rule} {i : ℕ} {m : MaskRule} (t : Told rs i m) (b : Bool) → Decides b (FiresIn x s (mask_rule m)) → b ≡ fires x s (model t.rule)
-same_fires x s t b d =
-    same_from_decides b (fires x s (model t.rule)) (fires_in x s (model t.rule) b t.fits (subst (λ r. Decides b (FiresIn x s r)) t.same d)) (fires_decides x s (model t.rule))
+-- whether the masks of a rule say that it fires
+pub same_fires : (x s : Row) (m : MaskRule) (b : Bool) → Decides b (FiresIn x s (mask_rule m)) → (r : Rule) → rule_fits 96 r ≡ true → mask_rule m ≡ in_rows r → b ≡ fires x s r
+same_fires x s m b d r fits same = same_from_decides b (fires x s r) (fires_in x s r b fits (subst (λ q. Decides b (FiresIn x s q)) same d)) (fires_decides x s r)
 
 pub same_head : {rs : List code.Rule} {i : ℕ} {m : MaskRule} (t : Told rs i m) → head_model m.head ≡ (model t.rule).head
 same_head t = ap (λ (r : RowRule). r.head) t.same

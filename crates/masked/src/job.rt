@@ -5,7 +5,8 @@ ghost use Rattle.game.specs.AnswerSets.{AnswerSet, Smallest};
 ghost use Rattle.programs.specs.Programs.{rules_of};
 ghost use Rattle.solving.specs.Bounds.{Broken};
 
-use crate::step::MaskReduct;
+use crate::reduct::MaskReduct;
+use crate::step::MaskPicked;
 use closure::closing::closure;
 use closure::mask::Mask;
 use closure::set::AtomSet;
@@ -22,7 +23,13 @@ impl MaskJob<'_> {
     pub fn least(&self, against: Mask) -> Mask
         ensures { Smallest (rules_of self.now.program.now) (bit_row self.now.given.bits) (bit_row against.bits) (bit_row result.bits) }
     {
-        closure(&MaskReduct { job: *self, against }, &self.given)
+        closure(
+            &MaskPicked {
+                program: self.program,
+                picker: MaskReduct { against },
+            },
+            &self.given,
+        )
     }
 
     // Has some constraint none of its negated atoms in `against`, and all its plain atoms in `from`?

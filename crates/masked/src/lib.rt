@@ -2,4 +2,7 @@
 #![tactic(auto)]
 
 pub mod job;
+pub mod judging;
+mod level;
+mod reduct;
 mod step;

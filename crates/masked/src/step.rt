@@ -1,30 +1,45 @@
-// The rules of a reduct, as masks, as a growing step.
+// A growing step by which the heads of the rules that are picked follow, over masks.
+ghost use Rattle.std.specs.Prelude.{◌≡◌, Bool, true, List};
 ghost use Rattle.closure.specs.Bits.{bit_row};
-ghost use Rattle.game.specs.Derives.{fires as firing};
+ghost use Rattle.game.specs.Rules.{Rule as Meant};
+ghost use Rattle.programs.specs.Limits.{rule_fits};
+ghost use Rattle.programs.specs.Listed.{in_rows};
+ghost use Rattle.programs.specs.MaskRules.{mask_rule};
 ghost use Rattle.programs.specs.Programs.{rules_of};
-ghost use Rattle.solving.specs.Following.{fires_grows, headed_grows};
+ghost use Rattle.solving.specs.Following.{PicksMore, picked_grows};
 ghost use Rattle.solving.specs.Tests.{headed_by};
 
-use crate::job::MaskJob;
 use closure::mask::Mask;
 use closure::step::Step;
+use programs::mask_rule::MaskRule;
+use programs::program::Program;
 
-// The rules of which none has a negated atom in `against`.
-#[derive(Clone, Copy)]
-pub(crate) struct MaskReduct<'a> {
-    pub(crate) job: MaskJob<'a>,
-    pub(crate) against: Mask,
+// What picks rules by a set, where masks tell the rule; a larger set picks no fewer.
+pub(crate) trait MaskPicks {
+    ghost chosen: { Self → List Bool → Meant → Bool };
+
+    ghost picks_more: { PicksMore chosen };
+
+    fn picks(&self, rule: &MaskRule, from: Mask) -> bool
+        ensures { (r : Meant) → rule_fits 96 r ≡ true → mask_rule rule.now ≡ in_rows r → result ≡ chosen self.now (bit_row from.bits) r };
 }
 
-impl Step<96, Mask> for MaskReduct<'_> {
-    ghost follows = { λ s from a. headed_by (firing (bit_row s.against.bits) from) (rules_of s.job.program.now) a };
+// The rules of the program that are picked.
+#[derive(Drop)]
+pub(crate) struct MaskPicked<'a, P> {
+    pub(crate) program: &'a Program<96>,
+    pub(crate) picker: P,
+}
 
-    ghost laws = { record { grows = λ s a b wide wide' within i. headed_grows (firing (bit_row s.against.bits) a) (firing (bit_row s.against.bits) b) (fires_grows (bit_row s.against.bits) a b within) (rules_of s.job.program.now) i } };
+impl<'a, P: MaskPicks> Step<96, Mask> for MaskPicked<'a, P> {
+    ghost follows = { λ s from a. headed_by (P.chosen s.picker from) (rules_of s.program.now) a };
+
+    ghost laws = { record { grows = λ s a b wide wide' within i. picked_grows P.picks_more s.picker (rules_of s.program.now) a b within i } };
 
     fn mark(&self, from: &Mask, out: &mut Mask) {
-        for rule in self.job.program.masks().rules() {
+        for rule in self.program.masks().rules() {
             if let Some(head) = rule.head {
-                if rule.fires(self.against, *from) {
+                if self.picker.picks(rule, *from) {
                     *out = out.with(head);
                 }
             }

@@ -1,13 +1,14 @@
 -- The number of atoms that an atom cannot reach is a level for it, where the program is stratified.
-use Rattle.std.proofs.Common.{◌≡◌, ℕ, zero, suc, ◌<◌, ◌≤◌, true, false, ltb, leb, List, [], ◌∷◌, length, Decides, sym, refl, ◌∙◌, subst, arith}
+use Rattle.std.proofs.Common.{◌≡◌, ℕ, zero, suc, ◌<◌, ◌≤◌, true, false, ltb, leb, List, [], ◌∷◌, length, get_or, Decides, sym, refl, ◌∙◌, subst, arith}
 use Rattle.std.specs.List.{ContainsAt as Has, AllByRecursion}
 use Rattle.std.proofs.ByRecursion.{all-has, All-from_get_or, All-get_or, has_append_left, has_append_right, all_has_itself, All-weaker, Decides-by_and}
 use Rattle.std.proofs.lemmas.Bool.{and_parts, le-leb, leb-true, false≢true}
 use Rattle.std.proofs.lemmas.Bool.Decides.{Decides-like, Decides-and, Decides-ltb}
 use Rattle.game.specs.Sets.{Row, In, Within}
-use Rattle.game.specs.Rules.{Head, none, atom, Rule}
+use Rattle.game.specs.Rules.{Head, none, atom, Rule, is_head}
+use Rattle.game.specs.Derives.{SmallestClosed, derives_at}
 use Rattle.game.specs.Strata.{Edge, Reaches, here, on, Stratified, Leveled}
-use Rattle.game.proofs.Deriving.{HeadsBelow, head_is_head}
+use Rattle.game.proofs.Deriving.{HeadsBelow, head_is_head, derives_at_decides}
 use Rattle.closure.specs.Rows.{marked}
 use Rattle.closure.proofs.Marks.{marked_within, more_marked}
 use Rattle.programs.specs.Limits.{all_below, all_fit, rule_fits}
@@ -95,3 +96,16 @@ module _ (n : ℕ) (rules : List Rule) (levels : List ℕ) (below : HeadsBelow r
 -- levels that are all below n, where n is not 0
 pub low_at : (n : ℕ) (levels : List ℕ) → all_below n levels ≡ true → (a : ℕ) → a < n → length levels ≡ n → level_in levels a < n
 low_at n levels low a less wide = All-get_or (λ l. l < n) levels a 0 (omega arith) ((below_decides n levels).0 low)
+
+-- at a level that no head has nothing follows
+pub idle_level :
+    (n : ℕ) (rules : List Rule) (levels : List ℕ) (l : ℕ) (s used : Row) → length s ≡ n
+    → ((a : ℕ) → is_head rules a ≡ true → In (level_in levels a) used) → get_or used l false ≡ false → SmallestClosed n (derives_at rules (level_in levels) l s) s s
+idle_level n rules levels l s used wide all none' = record {
+  width = wide;
+  around = λ a h. h;
+  closed = λ a less e.
+      let (at, (r, has, head, kept, plain)) = (derives_at_decides rules (level_in levels) l s s a).0 e in
+      absurd (false≢true (sym none' ∙ subst (λ k. In k used) at (all a (head_is_head rules r a has head))));
+  least = λ t width around closed. around;
+}

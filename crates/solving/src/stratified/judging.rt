@@ -37,7 +37,9 @@ impl<const N: usize> Stratified<N> {
     {
         let mut set = *given;
         for level in 0..N {
-            set = self.settle_level(level, &set);
+            if self.used.at(level) {
+                set = self.settle_level(level, &set);
+            }
         }
         set
     }

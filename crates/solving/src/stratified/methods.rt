@@ -4,8 +4,9 @@ ghost use Rattle.game.specs.Strata.{FirstBreak, Stratified as IsStratified};
 ghost use Rattle.programs.specs.Programs.{rules_of};
 
 use super::Stratified;
-use crate::levels::rank;
+use crate::levels::{Levels, rank};
 use crate::strata::first_break;
+use closure::row::Row;
 use programs::program::Program;
 
 impl<const N: usize> Stratified<N> {
@@ -17,7 +18,12 @@ impl<const N: usize> Stratified<N> {
             return Err(i);
         }
         let levels = rank(&program);
-        Ok(Stratified { program, levels })
+        let used = levels.used(&program);
+        Ok(Stratified {
+            program,
+            levels,
+            used,
+        })
     }
 
     // The program itself.
@@ -25,5 +31,19 @@ impl<const N: usize> Stratified<N> {
         ensures { rules_of result.now ≡ rules_of self.now.program }
     {
         &self.program
+    }
+
+    // The levels of its atoms.
+    pub fn levels(&self) -> &Levels<N>
+        ensures { result.now ≡ self.now.levels }
+    {
+        &self.levels
+    }
+
+    // The levels that heads have.
+    pub fn used(&self) -> &Row<N>
+        ensures { result.now ≡ self.now.used }
+    {
+        &self.used
     }
 }
