@@ -3,6 +3,7 @@ use Rattle.std.proofs.Common.{◌≡◌, ℕ, ◌<◌, ◌≤◌, Bool, true, fa
 use lib.ListN.{length-map}
 use Rattle.std.proofs.lemmas.List.{get_or-map}
 use Rattle.closure.specs.declared.row.Row as code
+use Rattle.closure.specs.Bits.{bit_row}
 use Rattle.game.specs.Sets.{Row}
 use Rattle.game.specs.Sides.{Side, side_number}
 use Rattle.game.specs.Game.{Texts, nothing}
@@ -36,7 +37,7 @@ load_refusal i p f s b e (inl (is, ((x, sx), short))) = (false, subst (λ (z : F
 load_refusal i p f s b e (inr l) = (true, load_refused e l)
 
 module _ (b : runs.Book) (t : Texts) (has : b.texts ≡ Some t) (place : ℕ) where
-  pub look_pair : (items : List Pair) (p : Pair) → b.sheet ≡ pairs items → place < length items → p ≡ get_or items place p → Goes (look 1 place) b (wrote p.plan.marks p.reply.marks) b
+  pub look_pair : (items : List Pair) (p : Pair) → b.sheet ≡ pairs items → place < length items → p ≡ get_or items place p → Goes (look 1 place) b (wrote p.plan.marks (bit_row p.reply.bits)) b
   look_pair items p sheet less is =
       looks_pair t (pair_of p) has (subst (λ (xs : List runs.Pair). place < length xs) (sym sheet) (omega (arith, length-map items pair_of)))
       (subst (λ (xs : List runs.Pair). (d : runs.Pair) → get_or xs place d ≡ pair_of p) (sym sheet) (λ d. get_or-map pair_of items place p d less ∙ ap pair_of (sym is)))

@@ -5,3 +5,4 @@ pub mod Asking
 pub mod Loadings
 pub mod Showings
 pub mod Calls
+pub mod Judged

@@ -5,6 +5,7 @@ use Rattle.std.specs.declared.alloc.Global.{Global}
 use Rattle.game.specs.Game.{Texts}
 use Rattle.programs.specs.Programs.{rules_of}
 use Rattle.closure.specs.declared.row.Row as code
+use Rattle.closure.specs.Bits.{bit_row}
 use Rattle.finders.specs.Meanings.{From, start, after}
 use Rattle.loading.specs.Sided.{side_of}
 use Rattle.runs.specs.Book as runs
@@ -23,7 +24,7 @@ abbrev pub rows : List (code.Row 96) → List Row
 rows rs = map (λ (r : code.Row 96). r.marks) rs
 
 abbrev pub pair_of : Pair → runs.Pair
-pair_of p = record { plan = p.plan.marks; reply = p.reply.marks }
+pair_of p = record { plan = p.plan.marks; reply = bit_row p.reply.bits }
 
 abbrev pub pairs : List Pair → List runs.Pair
 pairs ps = map pair_of ps

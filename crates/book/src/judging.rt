@@ -1,19 +1,21 @@
 // Does a reply beat a plan?
 ghost use Rattle.std.specs.Prelude.{Decides};
+ghost use Rattle.closure.specs.Bits.{bit_row};
 ghost use Rattle.game.specs.Game.{Refutes, Holds, Beats};
 ghost use Rattle.book.specs.Models.{texts_from};
 
 use crate::loaded::Loaded;
-use closure::row::Row;
+use closure::mask::Mask;
 use loading::side::Side;
-use solving::job::Job;
+use masked::job::MaskJob;
+use masked::judging::holds;
 
 impl Loaded {
     // Is the site text, for this plan and reply, as the side does not want it?
-    pub(crate) fn refutes(&self, plan: &Row<96>, reply: &Row<96>) -> bool
-        ensures { Decides result (Refutes (texts_from self.now).side (Holds (texts_from self.now) plan.now.marks reply.now.marks)) }
+    pub(crate) fn refutes(&self, plan: Mask, reply: Mask) -> bool
+        ensures { Decides result (Refutes (texts_from self.now).side (Holds (texts_from self.now) (bit_row plan.bits) (bit_row reply.bits))) }
     {
-        let holds = self.site.holds(&plan.union(reply));
+        let holds = holds(&self.site, plan.union(reply));
         match self.side {
             Side::SomePlan => !holds,
             Side::EveryPlan => holds,
@@ -21,10 +23,10 @@ impl Loaded {
     }
 
     // Is it a reply to this plan, and does it beat the plan?
-    pub(crate) fn beats<'j>(&'j self, plan: &'j Row<96>, reply: &Row<96>) -> bool
-        ensures { Decides result (Beats (texts_from self.now) plan.now.marks reply.now.marks) }
+    pub(crate) fn beats(&self, plan: Mask, reply: Mask) -> bool
+        ensures { Decides result (Beats (texts_from self.now) (bit_row plan.bits) (bit_row reply.bits)) }
     {
-        let job = Job {
+        let job = MaskJob {
             program: &self.faults,
             given: plan,
         };

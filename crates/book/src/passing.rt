@@ -7,6 +7,7 @@ ghost use Rattle.book.specs.Passing.{Passed};
 
 use crate::loaded::Loaded;
 use crate::pair::Pair;
+use closure::mask::Mask;
 use closure::row::Row;
 
 // Does the plan stand among the struck ones?
@@ -21,7 +22,8 @@ impl Loaded {
     fn is_beaten(&self, sheet: &[Pair], plan: &Row<96>) -> bool
         ensures { Decides result (SheetBeats (texts_from self.now) (pairs sheet.now) plan.now.marks) }
     {
-        sheet.iter().any(|pair| self.beats(plan, &pair.reply))
+        let given = Mask::of(plan);
+        sheet.iter().any(|pair| self.beats(given, pair.reply))
     }
 
     // Is the plan struck, or beaten by a reply on the sheet?

@@ -10,6 +10,7 @@ use crate::following::following;
 use crate::loaded::Loaded;
 use crate::open::MOST_PAIRS;
 use crate::pair::Pair;
+use closure::mask::Mask;
 use closure::row::Row;
 use finders::finder::Finder;
 use solving::job::Job;
@@ -45,7 +46,10 @@ impl Loaded {
             if !self.passes_over(struck, sheet.as_slice(), &plan) {
                 match self.first_beating(finder, &plan) {
                     None => return Some(plan),
-                    Some(reply) => note(sheet, Pair { plan, reply }),
+                    Some(reply) => {
+                        let reply = Mask::of(&reply);
+                        note(sheet, Pair { plan, reply });
+                    }
                 }
             }
             earlier = Some(plan);

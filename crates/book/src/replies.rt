@@ -9,6 +9,7 @@ ghost use Rattle.book.specs.Models.{texts_from};
 
 use crate::following::following;
 use crate::loaded::Loaded;
+use closure::mask::Mask;
 use closure::row::Row;
 use finders::finder::Finder;
 use solving::job::Job;
@@ -27,9 +28,10 @@ impl Loaded {
             program: &self.faults,
             given: plan,
         };
+        let mask = Mask::of(plan);
         let mut earlier = None;
         while let Some(reply) = following(finder, job, earlier) {
-            if self.refutes(plan, &reply) {
+            if self.refutes(mask, Mask::of(&reply)) {
                 return Some(reply);
             }
             earlier = Some(reply);

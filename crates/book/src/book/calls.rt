@@ -92,7 +92,7 @@ impl Book {
             return Err(Refusal::NoEntry);
         };
         *first = pair.plan;
-        *second = pair.reply;
+        *second = pair.reply.row();
         Ok(())
     }
 

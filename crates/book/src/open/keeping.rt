@@ -1,5 +1,6 @@
 // How an open book is struck in, looked into and wiped.
 ghost use Rattle.std.specs.Prelude.{◌≡◌, ◌<◌, [], ◌∷◌, ◌++◌, length, Some, None, MatchOption};
+ghost use Rattle.closure.specs.Bits.{bit_row};
 ghost use Rattle.runs.specs.Book.{Goes, look, wrote, refused, no_entry, opened};
 ghost use Rattle.book.specs.Kept.{with_struck};
 ghost use Rattle.book.specs.Kinds.{kind_number};
@@ -9,6 +10,7 @@ ghost use Rattle.book.specs.Opened.{open_book};
 use super::Open;
 use crate::kind::Kind;
 use crate::pair::Pair;
+use closure::mask::Mask;
 use closure::row::Row;
 
 impl Open {
@@ -45,7 +47,7 @@ impl Open {
 
     // A pair of the sheet; or a struck plan, with an empty second row.
     pub(crate) fn entry(&self, kind: Kind, place: usize) -> Option<Pair>
-        ensures { MatchOption result (Goes (look (kind_number kind) place) (open_book self.now) (refused no_entry) (open_book self.now)) (λ p. Goes (look (kind_number kind) place) (open_book self.now) (wrote p.plan.marks p.reply.marks) (open_book self.now)) }
+        ensures { MatchOption result (Goes (look (kind_number kind) place) (open_book self.now) (refused no_entry) (open_book self.now)) (λ p. Goes (look (kind_number kind) place) (open_book self.now) (wrote p.plan.marks (bit_row p.reply.bits)) (open_book self.now)) }
     {
         match kind {
             Kind::Pair => self.sheet.as_slice().get(place).copied(),
@@ -53,7 +55,7 @@ impl Open {
                 let plan = *self.struck.as_slice().get(place)?;
                 Some(Pair {
                     plan,
-                    reply: Row::clear(),
+                    reply: Mask::clear(),
                 })
             }
         }

@@ -32,6 +32,11 @@ returns-then-has_more_heads g c =
       row = refl;
     }
 
+pub asked-open-requires : goal.asked-open-requires
+asked-open-requires g c over =
+    let o = c.in-Some.open in
+    not_from_Decides c.has_more_heads.result c.has_more_heads.ensures c.if-has_more_heads.false (subst (λ n. Over n (rules_of o.loaded.plan) (rules_of o.loaded.faults)) (g.met.F.Finder.most_is c.args.finder.now ∙ sym c.MOST.ensures) over)
+
 pub returns : goal.returns
 returns g c =
     let f = g.F.Finder.meaning c.args.finder.now in

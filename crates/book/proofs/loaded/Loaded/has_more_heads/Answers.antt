@@ -3,7 +3,7 @@ use Rattle.std.proofs.lemmas.Bool.{ltb-true, lt-ltb}
 use Rattle.game.specs.Rules.{is_head}
 use Rattle.closure.specs.Rows.{marked}
 use Rattle.finders.specs.Meanings.{heads_below}
-use Rattle.finders.proofs.Jobs.{row_from}
+use Rattle.closure.proofs.Marks.{row_from}
 use Rattle.programs.specs.Programs.{rules_of}
 use Rattle.book.proofs.loaded.Loaded.has_more_heads.Goals as goal
 
