@@ -38,10 +38,9 @@ impl<'a, P: MaskPicks> Step<96, Mask> for MaskPicked<'a, P> {
 
     fn mark(&self, from: &Mask, out: &mut Mask) {
         for rule in self.program.masks().rules() {
-            if let Some(head) = rule.head {
-                if self.picker.picks(rule, *from) {
-                    *out = out.with(head);
-                }
+            let head = rule.one();
+            if !head.is_within(*out) && self.picker.picks(rule, *from) {
+                *out = out.union(head);
             }
         }
     }

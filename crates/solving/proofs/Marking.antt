@@ -1,7 +1,7 @@
 -- One turn of the loop that marks the heads of picked rules.
 use Rattle.std.proofs.Common.{◌≡◌, ℕ, ◌+◌, ◌<◌, ◌≤◌, Bool, true, false, ◌&&◌, ◌||◌, eqb, List, [], ◌∷◌, length, get_or, drop, set, replicate, sym, refl, ap, ◌∙◌, subst, ⊎_elim, arith}
 use Rattle.std.proofs.lemmas.List.{at_drop_more, at_drop_all, get_or-set_same, get_or-set_other, get_or-replicate, get_or_past, length-replicate}
-use Rattle.std.proofs.lemmas.Bool.{cases_eq, cases_lt, eq-eqb, ne_eqb}
+use Rattle.std.proofs.lemmas.Bool.{cases_eq, cases_lt, eq-eqb, ne_eqb, false≢true}
 use Rattle.game.specs.Sets.{Row}
 use Rattle.game.specs.Rules.{Head, Rule, heads, is_head, none, atom}
 use Rattle.game.specs.Derives.{fires, derives, derives_at, SmallestClosed}
@@ -22,6 +22,12 @@ skip true y z = refl
 skip false true z = refl
 skip false false z = refl
 
+-- a head that is marked already adds nothing
+known_there : (b x y z : Bool) → (x ≡ true → b ≡ true) → (b || z) ≡ (b || ((x && y) || z))
+known_there true x y z known = refl
+known_there false true y z known = absurd (false≢true (known refl))
+known_there false false y z known = refl
+
 module _ (p : Rule → Bool) (rs : List code.Rule) (i : ℕ) (r : code.Rule) (inside : i < length rs) (is : r ≡ get_or rs i r) (a : ℕ) where
   -- the heads that are left, with the rule at i first
   left : headed_by p (models (drop i rs)) a ≡ ((heads a (model r).head && p (model r)) || headed_by p (models (drop (i + 1) rs)) a)
@@ -38,6 +44,17 @@ module _ (p : Rule → Bool) (rs : List code.Rule) (i : ℕ) (r : code.Rule) (in
 
     pub headless : (model r).head ≡ none → (b || headed_by p (models (drop (i + 1) rs)) a) ≡ (b || headed_by p (models (drop i rs)) a)
     headless e = ap (λ t. b || t) (sym (left ∙ ap (λ q. (heads a q && p (model r)) || headed_by p (models (drop (i + 1) rs)) a) e))
+
+-- the same by the set of the head alone: x tells whether a is the head
+module _ (p : Rule → Bool) (rs : List code.Rule) (i : ℕ) (r : code.Rule) (inside : i < length rs) (is : r ≡ get_or rs i r) (a : ℕ) (b x : Bool) (head : x ≡ heads a (model r).head) where
+  whole : (b || headed_by p (models (drop i rs)) a) ≡ (b || ((x && p (model r)) || headed_by p (models (drop (i + 1) rs)) a))
+  whole = ap (λ t. b || t) (left p rs i r inside is a ∙ ap (λ h. (h && p (model r)) || headed_by p (models (drop (i + 1) rs)) a) (sym head))
+
+  pub with_one : p (model r) ≡ true → ((b || x) || headed_by p (models (drop (i + 1) rs)) a) ≡ (b || headed_by p (models (drop i rs)) a)
+  with_one picked = shift b x (headed_by p (models (drop (i + 1) rs)) a) ∙ sym (whole ∙ ap (λ t. b || ((x && t) || headed_by p (models (drop (i + 1) rs)) a)) picked)
+
+  pub known_one : (x ≡ true → b ≡ true) → (b || headed_by p (models (drop (i + 1) rs)) a) ≡ (b || headed_by p (models (drop i rs)) a)
+  known_one known = known_there b x (p (model r)) (headed_by p (models (drop (i + 1) rs)) a) known ∙ sym whole
 
 pub none_left : (p : Rule → Bool) (rs : List code.Rule) (i a : ℕ) (b : Bool) → length rs ≤ i → b ≡ (b || headed_by p (models (drop i rs)) a)
 none_left p rs i a b h = sym (ap (λ t. b || t) (at_drop_all (λ l. headed_by p (models l) a) rs i h) ∙ or-false b)

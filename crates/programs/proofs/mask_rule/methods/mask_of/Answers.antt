@@ -6,7 +6,7 @@ use Rattle.closure.specs.Bits.{bit_row, length-bit_row}
 use Rattle.closure.proofs.Marks.{marked_more, or_assoc}
 use Rattle.programs.specs.Listed.{listed}
 use Rattle.programs.proofs.Listing.{length-listed, listed_mark}
-use Rattle.programs.proofs.mask_rule.mask_of.Goals as goal
+use Rattle.programs.proofs.mask_rule.methods.mask_of.Goals as goal
 
 pub loop-atom-init : goal.loop-atom-init
 loop-atom-init c k below = ap (λ s. get_or s k false || among k c.args.atoms.now) c.clear-set.ensures ∙ ap (λ b. b || among k c.args.atoms.now) (get_or-replicate 96 k false false below)

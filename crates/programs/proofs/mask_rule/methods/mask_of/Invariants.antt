@@ -1,7 +1,7 @@
 use Rattle.std.proofs.Common.{◌≡◌, ℕ, ◌<◌, false, ◌||◌, get_or, drop}
 use Rattle.game.specs.Rules.{among}
 use Rattle.closure.specs.Bits.{bit_row}
-use Rattle.programs.proofs.mask_rule.mask_of.Given as goal
+use Rattle.programs.proofs.mask_rule.methods.mask_of.Given as goal
 
 -- what is in the set and what is left of the list give the whole list
 abbrev pub invariant-loop-atom : goal.invariant-loop-atom
