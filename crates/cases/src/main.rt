@@ -1,28 +1,40 @@
-// Runs small random programs through the solver and through a second solver of its own, and compares the two.
+// Runs small random programs through the solver, and random games through the calls of a book, and compares what they say with
+// a second solver of its own.
 #![tactic(auto)]
 
-mod comparing;
 mod dice;
-mod job;
-mod listing;
-mod making;
+mod games;
+mod jobs;
+mod layers;
+mod line;
 mod paths;
 mod subset;
-mod tally;
 mod textbook;
 
-use comparing::compare;
 use dice::Dice;
-use making::some_job;
-use tally::Tally;
+use games::known::Known;
+use games::playing::{play_both, some_calls};
+use games::some::{some_game, wide_game};
+use jobs::comparing::compare;
+use jobs::making::some_job;
 
-static SEEDS: [u64; 4] = [1_729, 65_537, 8_675_309, 2_718_281_828];
+static JOB_SEEDS: [u64; 4] = [1_729, 65_537, 8_675_309, 2_718_281_828];
 
 // So many jobs for each seed.
 const JOBS: u32 = 150;
 
+static GAME_SEEDS: [u64; 4] = [31_415_926, 271_828, 1_618_033, 577_215];
+
+// So many games for each seed.
+const GAMES: u32 = 20;
+
+static LIST_SEEDS: [u64; 4] = [9_192_631, 299_792_458, 6_022_140, 8_314_462];
+
+// So many lists of calls for each seed.
+const LISTS: u32 = 5;
+
 // A job on which the solvers differ is printed.
-fn run_seed(rt: &HostRuntime, seed: u64, tally: &mut Tally) -> anyhow::Result<()> {
+fn run_jobs(rt: &HostRuntime, seed: u64, tally: &mut jobs::tally::Tally) -> anyhow::Result<()> {
     let mut dice = Dice::new(seed);
     for _ in 0..JOBS {
         let job = some_job(rt.alloc(), &mut dice)?;
@@ -35,12 +47,68 @@ fn run_seed(rt: &HostRuntime, seed: u64, tally: &mut Tally) -> anyhow::Result<()
     Ok(())
 }
 
-fn run(rt: &HostRuntime) -> anyhow::Result<()> {
-    let mut tally = Tally::default();
-    for seed in SEEDS {
-        run_seed(rt, seed, &mut tally)?;
+fn print_games(rt: &HostRuntime, games: &[Known]) -> anyhow::Result<()> {
+    for known in games {
+        let game = &known.game;
+        println!(rt; "{game}")?;
     }
-    println!(rt; "{tally}")?;
+    Ok(())
+}
+
+// Plays a game with either finder. One on which the solvers differ is printed.
+fn run_game(rt: &HostRuntime, known: Known, tally: &mut games::tally::Tally) -> anyhow::Result<()> {
+    let before = tally.differences;
+    tally.game(&known);
+    let games = [known];
+    play_both(rt.alloc(), &games, tally)?;
+    if tally.differences != before {
+        print_games(rt, &games)?;
+    }
+    Ok(())
+}
+
+fn run_games(rt: &HostRuntime, seed: u64, tally: &mut games::tally::Tally) -> anyhow::Result<()> {
+    let mut dice = Dice::new(seed);
+    for _ in 0..GAMES {
+        run_game(rt, some_game(rt.alloc(), &mut dice)?, tally)?;
+    }
+    Ok(())
+}
+
+// Lists of calls over three games each, which are printed where the solvers differ.
+fn run_lists(rt: &HostRuntime, seed: u64, tally: &mut games::tally::Tally) -> anyhow::Result<()> {
+    let mut dice = Dice::new(seed);
+    for _ in 0..LISTS {
+        let games = [
+            some_game(rt.alloc(), &mut dice)?,
+            some_game(rt.alloc(), &mut dice)?,
+            some_game(rt.alloc(), &mut dice)?,
+        ];
+        let before = tally.differences;
+        some_calls(rt.alloc(), &mut dice, &games, tally)?;
+        if tally.differences != before {
+            print_games(rt, &games)?;
+        }
+    }
+    Ok(())
+}
+
+fn run(rt: &HostRuntime) -> anyhow::Result<()> {
+    let mut jobs = jobs::tally::Tally::default();
+    for seed in JOB_SEEDS {
+        run_jobs(rt, seed, &mut jobs)?;
+    }
+    println!(rt; "{jobs}")?;
+    let mut games = games::tally::Tally::default();
+    for seed in GAME_SEEDS {
+        run_games(rt, seed, &mut games)?;
+    }
+    for seed in LIST_SEEDS {
+        run_lists(rt, seed, &mut games)?;
+    }
+    println!(rt; "{games}")?;
+    let differences = jobs.differences.saturating_add(games.differences);
+    println!(rt; "{differences} differences")?;
     Ok(())
 }
 

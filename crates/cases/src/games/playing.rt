@@ -1,0 +1,70 @@
+// Games played to their ends, and random lists of calls.
+use crate::dice::Dice;
+use crate::games::known::Known;
+use crate::games::order::Order;
+use crate::games::tally::Tally;
+use crate::games::trial::Trial;
+use std::alloc::{AllocError, Global};
+
+// Asks and strikes in turn until no plan is shown. Of more than 64 that win the last strikes are refused.
+fn play(heap: Global, games: &[Known], order: Order, tally: &mut Tally) -> Result<(), AllocError> {
+    let mut trial = Trial::new(heap, games, tally);
+    trial.load(0)?;
+    for _ in 0..67 {
+        if !trial.ask(order)? {
+            break;
+        }
+        trial.strike()?;
+    }
+    trial.end(order)
+}
+
+// Plays the first of the games with either finder.
+pub(crate) fn play_both(
+    heap: Global,
+    games: &[Known],
+    tally: &mut Tally,
+) -> Result<(), AllocError> {
+    play(heap, games, Order::Counting, tally)?;
+    play(heap, games, Order::Branching, tally)
+}
+
+// A call by dice, to a book with three games.
+fn some_call(dice: &mut Dice, trial: &mut Trial<'_>) -> Result<(), AllocError> {
+    match dice.below(24) {
+        0..3 => trial.load(usize::from(dice.below(3))),
+        3 => trial.load_on(
+            usize::from(dice.below(3)),
+            if dice.once_in(2) { 0 } else { 3 },
+        ),
+        4..9 => {
+            trial.ask(Order::Counting)?;
+            Ok(())
+        }
+        9..14 => {
+            trial.ask(Order::Branching)?;
+            Ok(())
+        }
+        14..19 => trial.strike(),
+        19 => trial.wipe(),
+        _ => trial.look(1 + dice.below(2) as u8, usize::from(dice.below(6))),
+    }
+}
+
+// Up to thirty calls to a new book.
+pub(crate) fn some_calls(
+    heap: Global,
+    dice: &mut Dice,
+    games: &[Known],
+    tally: &mut Tally,
+) -> Result<(), AllocError> {
+    tally.list();
+    let mut trial = Trial::new(heap, games, tally);
+    if !dice.once_in(5) {
+        trial.load(0)?;
+    }
+    for _ in 0..dice.below(30) {
+        some_call(dice, &mut trial)?;
+    }
+    Ok(())
+}
