@@ -5,7 +5,7 @@ mod making;
 mod model;
 mod names;
 mod numbering;
-mod order;
+pub(crate) mod order;
 pub(crate) mod playing;
 mod refused;
 mod sheet;

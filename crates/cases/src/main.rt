@@ -13,8 +13,9 @@ mod textbook;
 
 use dice::Dice;
 use games::known::Known;
-use games::playing::{play_both, some_calls};
-use games::some::{some_game, wide_game};
+use games::order::Order;
+use games::playing::{play, some_calls};
+use games::some::{beaten_game, some_game, winning_game};
 use jobs::comparing::compare;
 use jobs::making::some_job;
 
@@ -26,12 +27,14 @@ const JOBS: u32 = 150;
 static GAME_SEEDS: [u64; 4] = [31_415_926, 271_828, 1_618_033, 577_215];
 
 // So many games for each seed.
-const GAMES: u32 = 20;
+const GAMES: u32 = 125;
+
+const LARGE_SEED: u64 = 1_414_213;
 
 static LIST_SEEDS: [u64; 4] = [9_192_631, 299_792_458, 6_022_140, 8_314_462];
 
 // So many lists of calls for each seed.
-const LISTS: u32 = 5;
+const LISTS: u32 = 40;
 
 // A job on which the solvers differ is printed.
 fn run_jobs(rt: &HostRuntime, seed: u64, tally: &mut jobs::tally::Tally) -> anyhow::Result<()> {
@@ -55,12 +58,19 @@ fn print_games(rt: &HostRuntime, games: &[Known]) -> anyhow::Result<()> {
     Ok(())
 }
 
-// Plays a game with either finder. One on which the solvers differ is printed.
-fn run_game(rt: &HostRuntime, known: Known, tally: &mut games::tally::Tally) -> anyhow::Result<()> {
+// Plays a game to its end with finders of these orders. One on which the solvers differ is printed.
+fn run_game(
+    rt: &HostRuntime,
+    known: Known,
+    orders: &[Order],
+    tally: &mut games::tally::Tally,
+) -> anyhow::Result<()> {
     let before = tally.differences;
     tally.game(&known);
     let games = [known];
-    play_both(rt.alloc(), &games, tally)?;
+    for order in orders {
+        play(rt.alloc(), &games, *order, tally)?;
+    }
     if tally.differences != before {
         print_games(rt, &games)?;
     }
@@ -70,9 +80,19 @@ fn run_game(rt: &HostRuntime, known: Known, tally: &mut games::tally::Tally) -> 
 fn run_games(rt: &HostRuntime, seed: u64, tally: &mut games::tally::Tally) -> anyhow::Result<()> {
     let mut dice = Dice::new(seed);
     for _ in 0..GAMES {
-        run_game(rt, some_game(rt.alloc(), &mut dice)?, tally)?;
+        let known = some_game(rt.alloc(), &mut dice)?;
+        run_game(rt, known, &[Order::Counting, Order::Branching], tally)?;
     }
     Ok(())
+}
+
+// Games with more plans than a book can strike, or note on its sheet.
+fn run_large_games(rt: &HostRuntime, tally: &mut games::tally::Tally) -> anyhow::Result<()> {
+    let mut dice = Dice::new(LARGE_SEED);
+    let known = winning_game(rt.alloc(), &mut dice)?;
+    run_game(rt, known, &[Order::Counting, Order::Branching], tally)?;
+    let known = beaten_game(rt.alloc(), &mut dice)?;
+    run_game(rt, known, &[Order::Branching], tally)
 }
 
 // Lists of calls over three games each, which are printed where the solvers differ.
@@ -103,6 +123,7 @@ fn run(rt: &HostRuntime) -> anyhow::Result<()> {
     for seed in GAME_SEEDS {
         run_games(rt, seed, &mut games)?;
     }
+    run_large_games(rt, &mut games)?;
     for seed in LIST_SEEDS {
         run_lists(rt, seed, &mut games)?;
     }

@@ -15,7 +15,7 @@ pub(crate) struct Sizes {
 
 // Mostly few heads, at times up to the most.
 fn some_size(dice: &mut Dice, kind: Kind) -> u16 {
-    if dice.once_in(4) {
+    if dice.once_in(3) {
         dice.some_atom(kind.most_heads().saturating_add(1))
     } else {
         2 + dice.below(5)
@@ -240,11 +240,11 @@ impl Maker<'_> {
         Ok(lines)
     }
 
-    // Four choices among three heads each, and nothing else.
-    pub(crate) fn four_choices(&mut self) -> Result<Vec<Line>, AllocError> {
+    // So many choices among so many heads each, and nothing else.
+    pub(crate) fn choices(&mut self, count: u16, size: u16) -> Result<Vec<Line>, AllocError> {
         let mut lines = Vec::new(self.heap);
-        for first in [0, 3, 6, 9] {
-            self.add_choice(&mut lines, first, 3)?;
+        for choice in 0..count {
+            self.add_choice(&mut lines, choice.saturating_mul(size), size)?;
         }
         Ok(lines)
     }

@@ -6,8 +6,13 @@ use crate::games::tally::Tally;
 use crate::games::trial::Trial;
 use std::alloc::{AllocError, Global};
 
-// Asks and strikes in turn until no plan is shown. Of more than 64 that win the last strikes are refused.
-fn play(heap: Global, games: &[Known], order: Order, tally: &mut Tally) -> Result<(), AllocError> {
+// Asks and strikes in turn until no plan is shown, and asks once more. Of more than 64 that win the last strikes are refused.
+pub(crate) fn play(
+    heap: Global,
+    games: &[Known],
+    order: Order,
+    tally: &mut Tally,
+) -> Result<(), AllocError> {
     let mut trial = Trial::new(heap, games, tally);
     trial.load(0)?;
     for _ in 0..67 {
@@ -16,17 +21,8 @@ fn play(heap: Global, games: &[Known], order: Order, tally: &mut Tally) -> Resul
         }
         trial.strike()?;
     }
+    trial.ask(order)?;
     trial.end(order)
-}
-
-// Plays the first of the games with either finder.
-pub(crate) fn play_both(
-    heap: Global,
-    games: &[Known],
-    tally: &mut Tally,
-) -> Result<(), AllocError> {
-    play(heap, games, Order::Counting, tally)?;
-    play(heap, games, Order::Branching, tally)
 }
 
 // A call by dice, to a book with three games.

@@ -166,13 +166,13 @@ impl Pen<'_> {
     }
 }
 
-// The text of these rules; once in thirty times it is broken.
-pub(crate) fn spelled(heap: Global, dice: &mut Dice, lines: Vec<Line>) -> Result<Text, AllocError> {
-    let broken = if dice.once_in(30) {
-        Some(usize::from(dice.below(8)))
-    } else {
-        None
-    };
+// The text of these rules; where a place is given, it is broken there, or at its end.
+pub(crate) fn spelled(
+    heap: Global,
+    lines: Vec<Line>,
+    broken: Option<usize>,
+    dice: &mut Dice,
+) -> Result<Text, AllocError> {
     let mut pen = Pen {
         dice,
         text: String::new(heap),
