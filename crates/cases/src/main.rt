@@ -27,14 +27,14 @@ const JOBS: u32 = 150;
 static GAME_SEEDS: [u64; 4] = [31_415_926, 271_828, 1_618_033, 577_215];
 
 // So many games for each seed.
-const GAMES: u32 = 125;
+const GAMES: u32 = 250;
 
 const LARGE_SEED: u64 = 1_414_213;
 
 static LIST_SEEDS: [u64; 4] = [9_192_631, 299_792_458, 6_022_140, 8_314_462];
 
 // So many lists of calls for each seed.
-const LISTS: u32 = 40;
+const LISTS: u32 = 100;
 
 // A job on which the solvers differ is printed.
 fn run_jobs(rt: &HostRuntime, seed: u64, tally: &mut jobs::tally::Tally) -> anyhow::Result<()> {

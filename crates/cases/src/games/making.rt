@@ -240,11 +240,22 @@ impl Maker<'_> {
         Ok(lines)
     }
 
-    // So many choices among so many heads each, and nothing else.
+    // So many choices among so many heads each, and for each choice a constraint that its first two heads do not stand together. No
+    // answer set breaks it, but the second solver need not look for smaller sets in those that do.
     pub(crate) fn choices(&mut self, count: u16, size: u16) -> Result<Vec<Line>, AllocError> {
         let mut lines = Vec::new(self.heap);
         for choice in 0..count {
-            self.add_choice(&mut lines, choice.saturating_mul(size), size)?;
+            let first = choice.saturating_mul(size);
+            self.add_choice(&mut lines, first, size)?;
+            let pair = [first, first.saturating_add(1)];
+            let body = pair
+                .iter()
+                .map(|place| Literal {
+                    negated: false,
+                    atom: self.head(*place),
+                })
+                .collect(self.heap)?;
+            lines.push(Line { head: None, body })?;
         }
         Ok(lines)
     }
