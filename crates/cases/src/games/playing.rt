@@ -43,7 +43,7 @@ fn some_call(dice: &mut Dice, trial: &mut Trial<'_>) -> Result<(), AllocError> {
         }
         14..19 => trial.strike(),
         19 => trial.wipe(),
-        _ => trial.look(1 + dice.below(2) as u8, usize::from(dice.below(6))),
+        _ => trial.look(dice.below(4) as u8, usize::from(dice.below(6))),
     }
 }
 

@@ -18,6 +18,7 @@ fn some_side(dice: &mut Dice) -> u8 {
     }
 }
 
+// A text; once in thirty times it cannot be read.
 fn some_text(heap: Global, dice: &mut Dice, kind: Kind, sizes: Sizes) -> Result<Text, AllocError> {
     let lines = Maker::new(heap, dice, kind, sizes)?.lines()?;
     let broken = if dice.once_in(30) {
@@ -28,6 +29,7 @@ fn some_text(heap: Global, dice: &mut Dice, kind: Kind, sizes: Sizes) -> Result<
     spelled(heap, lines, broken, dice)
 }
 
+// A game of texts of up to ten heads; some are refused.
 pub(crate) fn some_game(heap: Global, dice: &mut Dice) -> Result<Known, AllocError> {
     let sizes = Sizes::some(dice);
     let game = Game {

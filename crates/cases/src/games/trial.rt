@@ -68,8 +68,8 @@ impl Trial<'_> {
         let reason = !none_wins || is_reason(sheet, struck, plans);
         let same = sheet == self.model.sheet.as_slice() && struck == self.model.struck.as_slice();
         let ended = sheet_end == end && struck_end == end;
-        self.tally.read(sheet.len(), struck.len());
-        self.tally.agree(valid && reason && same && ended);
+        let so = valid && reason && same && ended;
+        self.tally.read(sheet.len(), struck.len(), so);
         Ok(())
     }
 
