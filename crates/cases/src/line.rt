@@ -1,6 +1,7 @@
 // A rule of a program as the dice give it.
 use crate::subset::Subset;
 
+// An atom of a body, plain or negated.
 #[derive(Clone, Copy)]
 pub(crate) struct Literal {
     pub(crate) negated: bool,

@@ -19,18 +19,22 @@ use games::some::{beaten_game, some_game, winning_game};
 use jobs::comparing::compare;
 use jobs::making::some_job;
 
+// The seeds of the single programs.
 static JOB_SEEDS: [u64; 4] = [1_729, 65_537, 8_675_309, 2_718_281_828];
 
 // So many jobs for each seed.
 const JOBS: u32 = 150;
 
+// The seeds of the games that are played.
 static GAME_SEEDS: [u64; 4] = [31_415_926, 271_828, 1_618_033, 577_215];
 
 // So many games for each seed.
 const GAMES: u32 = 250;
 
+// The seed of the blanks in the large games.
 const LARGE_SEED: u64 = 1_414_213;
 
+// The seeds of the lists of calls.
 static LIST_SEEDS: [u64; 4] = [9_192_631, 299_792_458, 6_022_140, 8_314_462];
 
 // So many lists of calls for each seed.
@@ -50,6 +54,7 @@ fn run_jobs(rt: &HostRuntime, seed: u64, tally: &mut jobs::tally::Tally) -> anyh
     Ok(())
 }
 
+// The side and the texts of each game.
 fn print_games(rt: &HostRuntime, games: &[Known]) -> anyhow::Result<()> {
     for known in games {
         let game = &known.game;
@@ -77,6 +82,7 @@ fn run_game(
     Ok(())
 }
 
+// Games by dice, each with either finder.
 fn run_games(rt: &HostRuntime, seed: u64, tally: &mut games::tally::Tally) -> anyhow::Result<()> {
     let mut dice = Dice::new(seed);
     for _ in 0..GAMES {
@@ -113,6 +119,7 @@ fn run_lists(rt: &HostRuntime, seed: u64, tally: &mut games::tally::Tally) -> an
     Ok(())
 }
 
+// Prints what was compared, and how often the solvers differ.
 fn run(rt: &HostRuntime) -> anyhow::Result<()> {
     let mut jobs = jobs::tally::Tally::default();
     for seed in JOB_SEEDS {

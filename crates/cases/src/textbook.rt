@@ -4,6 +4,7 @@ use crate::paths::first_break;
 use crate::subset::Subset;
 use std::alloc::{AllocError, Global};
 
+// A rule as sets.
 #[derive(Clone, Copy)]
 pub(crate) struct Clause {
     pub(crate) head: Option<u16>,
@@ -26,6 +27,7 @@ impl Clause {
     }
 }
 
+// The rules of a program, and the atoms that are heads.
 #[derive(Drop)]
 pub(crate) struct Textbook {
     clauses: Vec<Clause>,

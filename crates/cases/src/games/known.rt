@@ -5,6 +5,7 @@ use crate::games::solver::{Plan, Solution};
 use crate::games::texts::Game;
 use std::alloc::{AllocError, Global};
 
+// The game, with the refusal of a load or its plans.
 #[derive(Drop)]
 pub(crate) struct Known {
     pub(crate) game: Game,
@@ -15,6 +16,7 @@ pub(crate) struct Known {
 }
 
 impl Known {
+    // Works out whether the game loads, and where it does its plans.
     pub(crate) fn of(heap: Global, game: Game) -> Result<Known, AllocError> {
         let refused = refusal_of(heap, &game)?;
         let solution = match refused {
@@ -28,6 +30,7 @@ impl Known {
         })
     }
 
+    // The plans in the finder's order; none where a load is refused.
     pub(crate) fn plans(&self, order: Order) -> &[Plan] {
         match &self.solution {
             Some(solution) => solution.plans(order),

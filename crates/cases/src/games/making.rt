@@ -23,6 +23,7 @@ fn some_size(dice: &mut Dice, kind: Kind) -> u16 {
 }
 
 impl Sizes {
+    // Each by dice.
     pub(crate) fn some(dice: &mut Dice) -> Sizes {
         Sizes {
             plan: some_size(dice, Kind::Plan),
@@ -31,6 +32,7 @@ impl Sizes {
         }
     }
 
+    // The heads of this text.
     fn of(&self, kind: Kind) -> u16 {
         match kind {
             Kind::Plan => self.plan,
@@ -66,6 +68,7 @@ pub(crate) struct Maker<'a> {
 }
 
 impl Maker<'_> {
+    // A maker for this text of a game.
     pub(crate) fn new(
         heap: Global,
         dice: &mut Dice,
@@ -88,17 +91,20 @@ impl Maker<'_> {
         self.kind.name(if heads == 0 { 0 } else { place % heads })
     }
 
-    // Once in 120 times any name at all, which may be a head that is taken.
+    // Once in 60 times any name at all, which may be a head that is taken.
     fn some_head(&mut self) -> u16 {
-        if self.dice.once_in(120) {
+        if self.dice.once_in(60) {
             return self.dice.below(NAMES);
         }
         let place = self.dice.some_atom(self.sizes.of(self.kind));
         self.head(place)
     }
 
-    // An atom of this text or of one before it: a head, or the one name after the heads.
+    // Mostly an atom of this text or of one before it: a head, or the one name after the heads; once in 150 times any name.
     fn some_atom(&mut self) -> u16 {
+        if self.dice.once_in(150) {
+            return self.dice.below(NAMES);
+        }
         let kind = match (self.kind, self.dice.below(4)) {
             (Kind::Faults, 0 | 1) | (Kind::Site, 0) => Kind::Plan,
             (Kind::Site, 1) => Kind::Faults,
@@ -108,12 +114,14 @@ impl Maker<'_> {
         kind.name(place)
     }
 
+    // Plain or negated.
     fn some_literal(&mut self) -> Literal {
         let negated = self.dice.once_in(2);
         let atom = self.some_atom();
         Literal { negated, atom }
     }
 
+    // May the literal stand in a rule for this head?
     fn allows(&self, head: Option<u16>, literal: Literal) -> bool {
         let above = u16::from(literal.negated);
         self.layers.allow(literal.atom, head, above)
@@ -147,6 +155,7 @@ impl Maker<'_> {
         Ok(Line { head, body })
     }
 
+    // So many rules more.
     fn add_lines(&mut self, lines: &mut Vec<Line>, count: u16) -> Result<(), AllocError> {
         for _ in 0..count {
             lines.push(self.some_line()?)?;
@@ -155,12 +164,7 @@ impl Maker<'_> {
     }
 
     // A choice of one among so many heads: a rule for each, which derives it unless another one is there.
-    fn add_choice(
-        &mut self,
-        lines: &mut Vec<Line>,
-        first: u16,
-        size: u16,
-    ) -> Result<(), AllocError> {
+    fn add_choice(&self, lines: &mut Vec<Line>, first: u16, size: u16) -> Result<(), AllocError> {
         for member in 0..size {
             let body = (0..size)
                 .filter(|other| *other != member)

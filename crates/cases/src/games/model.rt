@@ -22,6 +22,7 @@ pub(crate) struct Answer {
     pub(crate) row: Subset,
 }
 
+// What a book holds.
 #[derive(Drop)]
 pub(crate) struct Model {
     // Which of the games is loaded.
@@ -32,6 +33,7 @@ pub(crate) struct Model {
 }
 
 impl Model {
+    // Nothing is loaded.
     pub(crate) fn new(heap: Global) -> Model {
         Model {
             loaded: None,
@@ -41,12 +43,14 @@ impl Model {
         }
     }
 
+    // Keeps the loaded game alone.
     pub(crate) fn wipe(&mut self) {
         self.sheet.clear();
         self.struck.clear();
         self.shown = None;
     }
 
+    // Loads the game at this place.
     pub(crate) fn load(&mut self, place: usize) {
         self.wipe();
         self.loaded = Some(place);

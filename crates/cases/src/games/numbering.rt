@@ -2,6 +2,7 @@
 use crate::line::{Line, Literal};
 use std::alloc::{AllocError, Global};
 
+// The numbers that are given so far.
 #[derive(Drop)]
 pub(crate) struct Numbering {
     // The number of each name that has appeared.
@@ -17,6 +18,7 @@ impl Numbering {
         }
     }
 
+    // The name's number: the next one where it is new.
     fn number(&mut self, name: u16) -> u16 {
         let known = self.of.get(usize::from(name)).copied().flatten();
         let number = known.unwrap_or(self.next);
@@ -29,6 +31,7 @@ impl Numbering {
         number
     }
 
+    // The head comes before the body.
     fn line(&mut self, heap: Global, line: &Line) -> Result<Line, AllocError> {
         let head = line.head.map(|name| self.number(name));
         let body = line

@@ -1,6 +1,7 @@
 // The orders of the two finders.
 use crate::subset::Subset;
 
+// In which order a finder tells the answer sets.
 #[derive(Clone, Copy, PartialEq, Eq)]
 pub(crate) enum Order {
     Counting,

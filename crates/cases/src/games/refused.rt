@@ -14,12 +14,14 @@ pub(crate) struct Refused {
 }
 
 impl Refused {
+    // The side is neither 1 nor 2.
     pub(crate) const WRONG_SIDE: Refused = Refused {
         cause: 1,
         text: 0,
         byte: 0,
     };
 
+    // What a load told.
     pub(crate) fn told(fault: Fault) -> Refused {
         Refused {
             cause: fault.cause(),

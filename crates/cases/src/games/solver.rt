@@ -6,6 +6,7 @@ use crate::subset::Subset;
 use crate::textbook::Textbook;
 use std::alloc::{AllocError, Global};
 
+// A reply to a plan.
 #[derive(Clone, Copy)]
 pub(crate) struct Reply {
     pub(crate) set: Subset,
@@ -20,6 +21,7 @@ pub(crate) struct Plan {
 }
 
 impl Plan {
+    // The first of the replies that beats the plan.
     pub(crate) fn first_beating(&self) -> Option<Subset> {
         self.replies
             .iter()
@@ -27,6 +29,7 @@ impl Plan {
             .map(|reply| reply.set)
     }
 
+    // A plan wins when no reply beats it.
     pub(crate) fn wins(&self) -> bool {
         self.first_beating().is_none()
     }
@@ -50,6 +53,7 @@ struct Texts {
 }
 
 impl Texts {
+    // Numbers the atoms through the plan text, the fault text and the site text.
     fn of(heap: Global, game: &Game) -> Result<Texts, AllocError> {
         let mut numbering = Numbering::new();
         let plan = numbering.lines(heap, game.plan.lines.as_slice())?;
@@ -69,6 +73,7 @@ impl Texts {
         self.site.holds(plan.or(reply)) == (self.side == 2)
     }
 
+    // The plan with its replies, which are the answer sets of the fault text with the plan given.
     fn plan(&self, set: Subset, order: Order) -> Result<Plan, AllocError> {
         let mut sets = self.faults.all_answers(self.heap, set)?;
         sets.sort_unstable_by_key(|reply| order.rank(*reply));
@@ -82,6 +87,7 @@ impl Texts {
         Ok(Plan { set, replies })
     }
 
+    // The plans, which are the answer sets of the plan text with nothing given.
     fn plans(&self, order: Order) -> Result<Vec<Plan>, AllocError> {
         let mut sets = self.plan.all_answers(self.heap, Subset::numbered(0))?;
         sets.sort_unstable_by_key(|plan| order.rank(*plan));
@@ -99,6 +105,7 @@ pub(crate) struct Solution {
 }
 
 impl Solution {
+    // Solves a game that loads.
     pub(crate) fn of(heap: Global, game: &Game) -> Result<Solution, AllocError> {
         let texts = Texts::of(heap, game)?;
         Ok(Solution {
@@ -107,6 +114,7 @@ impl Solution {
         })
     }
 
+    // The plans in this order.
     pub(crate) fn plans(&self, order: Order) -> &[Plan] {
         match order {
             Order::Counting => self.counting.as_slice(),

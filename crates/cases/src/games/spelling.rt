@@ -13,6 +13,7 @@ struct Flaw {
     behind: usize,
 }
 
+// A flaw of each kind that a text can have where a rule may start.
 const FLAWS: [Flaw; 9] = [
     Flaw {
         cause: 3,
@@ -86,17 +87,20 @@ impl Pen<'_> {
         self.text.push_str(blank)
     }
 
+    // The token, and what may stand behind it.
     fn token(&mut self, token: &str) -> Result<(), AllocError> {
         self.text.push_str(token)?;
         self.blank()
     }
 
+    // The name of this number.
     fn name(&mut self, name: u16) -> Result<(), AllocError> {
         let name = Name(name);
         write!(self.text, "{name}")?;
         self.blank()
     }
 
+    // The body, with commas between the literals.
     fn literals(&mut self, body: &[Literal]) -> Result<(), AllocError> {
         for (place, literal) in body.iter().enumerate() {
             if place != 0 {

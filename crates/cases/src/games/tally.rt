@@ -38,6 +38,7 @@ struct Refusals {
     times: [u64; 16],
 }
 
+// All counts of games.
 #[derive(Clone, Copy, Default)]
 pub(crate) struct Tally {
     found: Found,

@@ -11,6 +11,7 @@ pub(crate) struct Damage {
     pub(crate) byte: usize,
 }
 
+// A text as rules and as bytes.
 #[derive(Drop)]
 pub(crate) struct Text {
     // The rules, over the numbers of names.
@@ -29,6 +30,7 @@ impl Text {
     }
 }
 
+// What a load is handed.
 #[derive(Drop)]
 pub(crate) struct Game {
     pub(crate) side: u8,
@@ -38,6 +40,7 @@ pub(crate) struct Game {
 }
 
 impl Game {
+    // The bytes of the three texts.
     pub(crate) fn sources(&self) -> Sources<'_> {
         Sources {
             plan: self.plan.written.as_bytes(),

@@ -10,6 +10,7 @@ use crate::games::tally::Tally;
 use book::book::Book;
 use std::alloc::{AllocError, Global};
 
+// The two, over the games that may be loaded.
 #[derive(Drop)]
 pub(crate) struct Trial<'a> {
     heap: Global,
@@ -46,6 +47,7 @@ fn asked(
 }
 
 impl Trial<'_> {
+    // Both are new.
     pub(crate) fn new<'a>(heap: Global, games: &'a [Known], tally: &'a mut Tally) -> Trial<'a> {
         Trial {
             heap,
@@ -110,6 +112,7 @@ impl Trial<'_> {
         Ok(want.is_ok_and(|answer| answer.verdict == 1))
     }
 
+    // Strikes the plan shown.
     pub(crate) fn strike(&mut self) -> Result<(), AllocError> {
         let got = answers::strike(&mut self.book);
         let want = self.model.strike()?;
@@ -117,12 +120,14 @@ impl Trial<'_> {
         self.read(false)
     }
 
+    // Looks at one entry.
     pub(crate) fn look(&mut self, kind: u8, place: usize) -> Result<(), AllocError> {
         let got = answers::look(&self.book, kind, place);
         self.tally.look(got, self.model.look(kind, place));
         self.read(false)
     }
 
+    // Forgets all but the loaded game.
     pub(crate) fn wipe(&mut self) -> Result<(), AllocError> {
         self.book.wipe();
         self.model.wipe();
