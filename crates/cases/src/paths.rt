@@ -1,12 +1,11 @@
 // Strata by the paths of the dependency graph.
-use crate::making::ATOMS;
-use crate::subset::Subset;
+use crate::subset::{ATOMS, Subset};
 use crate::textbook::Clause;
 
 // The atoms that an atom reaches, as far as the paths are known that go on through the atoms below a bound.
 #[derive(Clone, Copy)]
 struct Paths {
-    to: [Subset; 6],
+    to: [Subset; 32],
 }
 
 impl Paths {
@@ -27,7 +26,7 @@ impl Paths {
     // Each atom reaches itself, and each body atom the head of its clause.
     fn of(clauses: &[Clause]) -> Paths {
         let mut paths = Paths {
-            to: [Subset::numbered(0); 6],
+            to: [Subset::numbered(0); 32],
         };
         for atom in 0..ATOMS {
             paths.add(atom, Subset::one(atom));

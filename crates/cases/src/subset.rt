@@ -1,9 +1,9 @@
-// Sets of the atoms 0 to 5 as numbers: atom k is in the set where bit k stands.
+// Sets of the atoms 0 to 31 as numbers: atom k is in the set where bit k stands.
 
 ghost use Rattle.std.specs.Iterator.{IsFinite};
 
-// There are so many sets, numbered from 0.
-pub(crate) const SETS: u32 = 64;
+// The atoms of a set are below this number.
+pub(crate) const ATOMS: u16 = 32;
 
 #[derive(Clone, Copy, PartialEq, Eq)]
 pub(crate) struct Subset(u32);
@@ -28,6 +28,10 @@ impl Subset {
         Subset(1u32.wrapping_shl(u32::from(atom)))
     }
 
+    pub(crate) fn number(self) -> u32 {
+        self.0
+    }
+
     pub(crate) fn has(self, atom: u16) -> bool {
         Subset::one(atom).within(self)
     }
@@ -46,5 +50,23 @@ impl Subset {
 
     pub(crate) fn is_empty(self) -> bool {
         self.0 == 0
+    }
+
+    // How many sets are within this one, where it has fewer than 32 atoms.
+    pub(crate) fn parts(self) -> u32 {
+        1u32.wrapping_shl(self.0.count_ones())
+    }
+
+    // The set within this one whose number, written over this set's atoms alone, is the given one.
+    pub(crate) fn part(self, number: u32) -> Subset {
+        let mut digits = number;
+        let mut part = Subset(0);
+        for atom in (0..ATOMS).filter(|atom| self.has(*atom)) {
+            if digits & 1 == 1 {
+                part = part.or(Subset::one(atom));
+            }
+            digits >>= 1;
+        }
+        part
     }
 }

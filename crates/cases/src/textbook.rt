@@ -1,9 +1,10 @@
 // A second solver, by the definitions of the textbooks: it tries all sets.
-use crate::job::Job;
+use crate::line::Line;
 use crate::paths::first_break;
-use crate::subset::{SETS, Subset};
+use crate::subset::Subset;
 use std::alloc::{AllocError, Global};
 
+// A rule as sets.
 #[derive(Clone, Copy)]
 pub(crate) struct Clause {
     pub(crate) head: Option<u16>,
@@ -11,93 +12,52 @@ pub(crate) struct Clause {
     pub(crate) negated: Subset,
 }
 
-// The reduct for the set: clauses with a negated atom in it go, the others lose their negated atoms.
-fn reduct(heap: Global, clauses: &[Clause], set: Subset) -> Result<Vec<Clause>, AllocError> {
-    clauses
-        .iter()
-        .filter(|clause| clause.negated.and(set).is_empty())
-        .map(|clause| Clause {
-            head: clause.head,
-            plain: clause.plain,
-            negated: Subset::numbered(0),
-        })
-        .collect(heap)
+impl Clause {
+    fn of(line: &Line) -> Clause {
+        Clause {
+            head: line.head,
+            plain: line.under(false),
+            negated: line.under(true),
+        }
+    }
+
+    // Is the clause, without its negated atoms, in the reduct for the set?
+    fn stays(&self, set: Subset) -> bool {
+        self.negated.and(set).is_empty()
+    }
 }
 
-// Is the head of each clause with a head in the set where its plain atoms are?
-fn obeys(positive: &[Clause], set: Subset) -> bool {
-    positive
-        .iter()
-        .filter(|clause| clause.plain.within(set))
-        .filter_map(|clause| clause.head)
-        .all(|head| set.has(head))
-}
-
-// Has no clause without a head all its plain atoms in the set?
-fn allows(positive: &[Clause], set: Subset) -> bool {
-    !positive
-        .iter()
-        .any(|clause| clause.head.is_none() && clause.plain.within(set))
-}
-
-// What is in every set that has the facts and obeys the clauses.
-fn smallest(positive: &[Clause], facts: Subset) -> Subset {
-    (0..SETS)
-        .map(Subset::numbered)
-        .filter(|set| facts.within(*set) && obeys(positive, *set))
-        .fold(Subset::numbered(SETS - 1), Subset::and)
-}
-
-// The atoms that are heads.
-fn heads(clauses: &[Clause]) -> Subset {
-    Subset::union(
-        clauses
-            .iter()
-            .filter_map(|clause| clause.head)
-            .map(Subset::one),
-    )
-}
-
-// Clauses with the atoms that are given as facts.
+// The rules of a program, and the atoms that are heads.
 #[derive(Drop)]
 pub(crate) struct Textbook {
-    heap: Global,
     clauses: Vec<Clause>,
-    pub(crate) facts: Subset,
+    heads: Subset,
 }
 
 impl Textbook {
-    pub(crate) fn of(heap: Global, job: &Job) -> Result<Textbook, AllocError> {
-        let clauses = job
-            .lines
-            .iter()
-            .map(|line| Clause {
-                head: line.head,
-                plain: Subset::of(line.plain.as_slice()),
-                negated: Subset::of(line.negated.as_slice()),
-            })
-            .collect(heap)?;
-        let facts = Subset::of(job.given.as_slice());
-        Ok(Textbook {
-            heap,
-            clauses,
-            facts,
-        })
+    fn new(clauses: Vec<Clause>) -> Textbook {
+        let heads = Subset::union(
+            clauses
+                .iter()
+                .filter_map(|clause| clause.head)
+                .map(Subset::one),
+        );
+        Textbook { clauses, heads }
+    }
+
+    pub(crate) fn of(heap: Global, lines: &[Line]) -> Result<Textbook, AllocError> {
+        Ok(Textbook::new(lines.iter().map(Clause::of).collect(heap)?))
     }
 
     // The same of the clauses that have a head.
-    pub(crate) fn headed(&self) -> Result<Textbook, AllocError> {
+    pub(crate) fn headed(&self, heap: Global) -> Result<Textbook, AllocError> {
         let clauses = self
             .clauses
             .iter()
             .copied()
             .filter(|clause| clause.head.is_some())
-            .collect(self.heap)?;
-        Ok(Textbook {
-            heap: self.heap,
-            clauses,
-            facts: self.facts,
-        })
+            .collect(heap)?;
+        Ok(Textbook::new(clauses))
     }
 
     // The place of the first clause with a negated atom that its head reaches.
@@ -105,25 +65,52 @@ impl Textbook {
         first_break(self.clauses.as_slice())
     }
 
-    // Is the set, one of heads, an answer set?
-    pub(crate) fn answers(&self, set: Subset) -> Result<bool, AllocError> {
-        let all = set.or(self.facts);
-        let positive = reduct(self.heap, self.clauses.as_slice(), all)?;
-        let positive = positive.as_slice();
-        Ok(
-            set.within(heads(self.clauses.as_slice()))
-                && smallest(positive, self.facts) == all
-                && allows(positive, all),
-        )
+    // Of the reduct for `all`: is the head of each clause with a head in the set where its plain atoms are?
+    fn obeys(&self, all: Subset, set: Subset) -> bool {
+        self.clauses
+            .iter()
+            .filter(|clause| clause.stays(all) && clause.plain.within(set))
+            .filter_map(|clause| clause.head)
+            .all(|head| set.has(head))
     }
 
-    pub(crate) fn all_answers(&self) -> Result<Vec<Subset>, AllocError> {
-        let mut found = Vec::new(self.heap);
-        for set in (0..SETS).map(Subset::numbered) {
-            if self.answers(set)? {
-                found.push(set)?;
-            }
-        }
-        Ok(found)
+    // Has no clause without a head a body that is true in the set?
+    fn allows(&self, all: Subset) -> bool {
+        !self.clauses.iter().any(|clause| clause.head.is_none()
+            && clause.stays(all)
+            && clause.plain.within(all))
+    }
+
+    // Is the set with the facts the smallest one around the facts that obeys the reduct for it?
+    fn is_smallest(&self, set: Subset, facts: Subset) -> bool {
+        let all = set.or(facts);
+        self.obeys(all, all)
+            && !(0..set.parts())
+                .map(|number| set.part(number).or(facts))
+                .any(|smaller| smaller != all && self.obeys(all, smaller))
+    }
+
+    // Is the set an answer set with these facts given?
+    pub(crate) fn answers(&self, set: Subset, facts: Subset) -> bool {
+        set.within(self.heads) && self.allows(set.or(facts)) && self.is_smallest(set, facts)
+    }
+
+    // The answer sets with these facts given, by rising numbers.
+    pub(crate) fn all_answers(
+        &self,
+        heap: Global,
+        facts: Subset,
+    ) -> Result<Vec<Subset>, AllocError> {
+        (0..self.heads.parts())
+            .map(|number| self.heads.part(number))
+            .filter(|set| self.answers(*set, facts))
+            .collect(heap)
+    }
+
+    // Is there an answer set with these facts given?
+    pub(crate) fn holds(&self, facts: Subset) -> bool {
+        (0..self.heads.parts())
+            .map(|number| self.heads.part(number))
+            .any(|set| self.answers(set, facts))
     }
 }

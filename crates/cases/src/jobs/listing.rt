@@ -1,9 +1,9 @@
 // Both finders against the textbook: the same sets, each in its own order, resumed after every entry; and their refusals.
-use crate::comparing::{APART, program_of, row_is, row_of};
-use crate::job::Job;
-use crate::making::ATOMS;
-use crate::subset::{SETS, Subset};
-use crate::tally::Tally;
+use crate::jobs::comparing::{APART, SETS, program_of, row_is, row_of};
+use crate::jobs::job::Job;
+use crate::jobs::making::ATOMS;
+use crate::jobs::tally::Tally;
+use crate::subset::Subset;
 use crate::textbook::Textbook;
 use closure::row::Row;
 use finders::branching::Branching;
@@ -69,16 +69,17 @@ fn compare_listing<F: Finder<96>, P: Fn(u32) -> Subset>(
     placed: P,
     program: &Program<96>,
     textbook: &Textbook,
+    facts: Subset,
     tally: &mut Tally,
-) -> Result<(), AllocError>
+)
     requires { P.IsAlwaysCallable placed }
 {
-    let given_row = row_of(textbook.facts, APART);
+    let given_row = row_of(facts, APART);
     let mut earlier = None;
     for number in 0..SETS {
         let set = placed(number);
         let row = row_of(set, APART);
-        if textbook.answers(set)? {
+        if textbook.answers(set, facts) {
             tally.entry(goes_on(finder, program, &given_row, earlier, Some(set)));
             earlier = Some(row);
         } else {
@@ -86,12 +87,11 @@ fn compare_listing<F: Finder<96>, P: Fn(u32) -> Subset>(
         }
     }
     tally.listing(goes_on(finder, program, &given_row, earlier, None));
-    Ok(())
 }
 
 // Is a given atom the head of a rule?
 fn given_is_head(job: &Job) -> bool {
-    let given = Subset::of(job.given.as_slice());
+    let given = job.facts();
     job.lines
         .iter()
         .any(|line| line.head.is_some_and(|head| given.has(head)))
@@ -107,13 +107,22 @@ pub(crate) fn compare_finders(
         tally.agree(false);
         return Ok(());
     };
-    let textbook = Textbook::of(heap, job)?;
+    let textbook = Textbook::of(heap, job.lines.as_slice())?;
+    let facts = job.facts();
     if given_is_head(job) {
-        let row = row_of(textbook.facts, APART);
+        let row = row_of(facts, APART);
         tally.refused(is_refused(&Counting, &program, &row, Some(row), Refusal::GivenHead));
         tally.refused(is_refused(&Branching, &program, &row, Some(row), Refusal::GivenHead));
         return Ok(());
     }
-    compare_listing(&Counting, Subset::numbered, &program, &textbook, tally)?;
-    compare_listing(&Branching, turned_round, &program, &textbook, tally)
+    compare_listing(
+        &Counting,
+        Subset::numbered,
+        &program,
+        &textbook,
+        facts,
+        tally,
+    );
+    compare_listing(&Branching, turned_round, &program, &textbook, facts, tally);
+    Ok(())
 }

@@ -1,9 +1,10 @@
 // The solver against the textbook.
-use crate::job::{Job, Line};
-use crate::listing::compare_finders;
-use crate::making::ATOMS;
-use crate::subset::{SETS, Subset};
-use crate::tally::Tally;
+use crate::jobs::job::Job;
+use crate::jobs::listing::compare_finders;
+use crate::jobs::making::ATOMS;
+use crate::jobs::tally::Tally;
+use crate::line::Line;
+use crate::subset::Subset;
 use crate::textbook::Textbook;
 use closure::row::Row;
 use programs::program::Program;
@@ -13,6 +14,9 @@ use solving::strata::unstratified_rule;
 use solving::stratified::Stratified;
 use std::alloc::{AllocError, Global};
 
+// There are so many sets of a job's atoms, numbered from 0.
+pub(crate) const SETS: u32 = 64;
+
 // At 96 atoms the six atoms of a job are 0, 19, 38, 57, 76 and 95.
 pub(crate) const APART: u16 = 19;
 
@@ -21,18 +25,25 @@ fn spread_atom(atom: u16, apart: u16) -> u16 {
     atom.wrapping_mul(apart)
 }
 
-fn spread_list(heap: Global, atoms: &[u16], apart: u16) -> Result<Vec<u16>, AllocError> {
-    atoms
+// The solver's numbers of the atoms of the line's negated literals, or of its plain ones.
+fn spread_list(
+    heap: Global,
+    line: &Line,
+    negated: bool,
+    apart: u16,
+) -> Result<Vec<u16>, AllocError> {
+    line.body
         .iter()
-        .map(|atom| spread_atom(*atom, apart))
+        .filter(|literal| literal.negated == negated)
+        .map(|literal| spread_atom(literal.atom, apart))
         .collect(heap)
 }
 
 fn spread_rule(heap: Global, line: &Line, apart: u16) -> Result<Rule, AllocError> {
     Ok(Rule {
         head: line.head.map(|atom| spread_atom(atom, apart)),
-        plain: spread_list(heap, line.plain.as_slice(), apart)?,
-        negated: spread_list(heap, line.negated.as_slice(), apart)?,
+        plain: spread_list(heap, line, false, apart)?,
+        negated: spread_list(heap, line, true, apart)?,
     })
 }
 
@@ -75,7 +86,7 @@ fn compare_sets<const N: usize>(
         tally.agree(false);
         return Ok(());
     };
-    let textbook = Textbook::of(heap, job)?;
+    let textbook = Textbook::of(heap, job.lines.as_slice())?;
     let solved = Solved {
         program: &program,
         given: given_row,
@@ -83,7 +94,7 @@ fn compare_sets<const N: usize>(
     for number in 0..SETS {
         let set = Subset::numbered(number);
         let got = solved.is_answer_set(&row_of(set, apart));
-        tally.set(got, textbook.answers(set)?);
+        tally.set(got, textbook.answers(set, job.facts()));
     }
     Ok(())
 }
@@ -99,15 +110,16 @@ fn only_new(sets: &[Subset], given: Subset) -> Option<Subset> {
 
 // A stratified program: the one answer set of its headed rules without what is given, and whether it holds.
 fn compare_judgement(
+    heap: Global,
     textbook: &Textbook,
+    facts: Subset,
     stratified: &Stratified<96>,
     tally: &mut Tally,
 ) -> Result<(), AllocError> {
-    let given_row = row_of(textbook.facts, APART);
-    let found = textbook.all_answers()?;
-    tally.judgement(stratified.holds(&given_row), !found.is_empty());
-    let found = textbook.headed()?.all_answers()?;
-    match only_new(found.as_slice(), textbook.facts) {
+    let given_row = row_of(facts, APART);
+    tally.judgement(stratified.holds(&given_row), textbook.holds(facts));
+    let found = textbook.headed(heap)?.all_answers(heap, facts)?;
+    match only_new(found.as_slice(), facts) {
         Some(set) => tally.agree(row_is(&stratified.answer(&given_row), set)),
         None => tally.agree(false),
     }
@@ -120,13 +132,13 @@ fn compare_strata(heap: Global, job: &Job, tally: &mut Tally) -> Result<(), Allo
         tally.agree(false);
         return Ok(());
     };
-    let textbook = Textbook::of(heap, job)?;
+    let textbook = Textbook::of(heap, job.lines.as_slice())?;
     let want = textbook.first_break();
     tally.program(unstratified_rule(&program), want);
     match Stratified::new(program) {
         Ok(stratified) => {
             tally.agree(want.is_none());
-            compare_judgement(&textbook, &stratified, tally)
+            compare_judgement(heap, &textbook, job.facts(), &stratified, tally)
         }
         Err(place) => {
             tally.agree(want == Some(place));
@@ -138,9 +150,8 @@ fn compare_strata(heap: Global, job: &Job, tally: &mut Tally) -> Result<(), Allo
 // Runs the job through both solvers.
 pub(crate) fn compare(heap: Global, job: &Job, tally: &mut Tally) -> Result<(), AllocError> {
     tally.job();
-    let given = Subset::of(job.given.as_slice());
-    compare_sets::<6>(heap, job, &row_of(given, 1), 1, tally)?;
-    compare_sets::<96>(heap, job, &row_of(given, APART), APART, tally)?;
+    compare_sets::<6>(heap, job, &row_of(job.facts(), 1), 1, tally)?;
+    compare_sets::<96>(heap, job, &row_of(job.facts(), APART), APART, tally)?;
     compare_strata(heap, job, tally)?;
     compare_finders(heap, job, tally)
 }

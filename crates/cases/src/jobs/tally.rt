@@ -82,7 +82,7 @@ impl fmt::Display for Tally {
             listings,
             entries,
             refusals,
-            differences,
+            differences: _,
         } = self;
         writeln!(f, "{jobs} jobs")?;
         writeln!(
@@ -98,10 +98,9 @@ impl fmt::Display for Tally {
             f,
             "{listings} listings to the end by either finder: {entries} entries"
         )?;
-        writeln!(
+        write!(
             f,
             "{refusals} jobs refused by either finder for a given head"
-        )?;
-        write!(f, "{differences} differences")
+        )
     }
 }
