@@ -1,0 +1,3 @@
+pub mod Words
+pub mod Verbs
+pub mod Commands
