@@ -2,6 +2,7 @@
 #![tactic(auto)]
 
 pub mod command;
+pub mod lines;
 #[cfg(test)]
 mod tests;
 mod verb;
