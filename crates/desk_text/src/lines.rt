@@ -1,11 +1,13 @@
 // The lines that the desk prints.
 ghost use Rattle.std.specs.Prelude.{◌≡◌, ◌++◌, OnOk, codes};
+ghost use Rattle.refusals.specs.Line.{line};
 ghost use Rattle.reading.specs.Tables.{standings};
 ghost use Rattle.desk_text.specs.Lines.{loaded_line, refused_line, sizes_line, struck_line, wiped_line, spaced, pair_lines, struck_plan_line, set_in_words, reason_line, reasons_line, winners_line, no_command_line, unread_line, help_lines};
 
 use closure::row::Row;
 use listing_text::lines::{Ending, add_atoms};
 use reading::table::Atom;
+use refusals::fault::Fault;
 use std::alloc::{AllocError, Global};
 
 // So many pairs stand on a full sheet.
@@ -30,6 +32,15 @@ pub fn add_refused(heap: Global, out: &mut Vec<u8>, cause: u8) -> Result<(), All
     ensures { OnOk result (out.new.items ≡ out.old.items ++ refused_line cause) }
 {
     let line = format!(in heap; "% refused {cause} text 0 byte 0\n")?;
+    out.extend_from_slice(line.as_bytes())?;
+    Ok(())
+}
+
+// Adds the line of a refusal that concerns a text.
+pub fn add_fault(heap: Global, out: &mut Vec<u8>, fault: Fault) -> Result<(), AllocError>
+    ensures { OnOk result (out.new.items ≡ out.old.items ++ line fault) }
+{
+    let line = format!(in heap; "{fault}\n")?;
     out.extend_from_slice(line.as_bytes())?;
     Ok(())
 }

@@ -1,29 +1,54 @@
 // The calls of the book at the desk, each told in lines.
+ghost use Rattle.std.specs.Prelude.{◌≡◌, ◌<◌, ◌⊎◌, ℕ, List, ◌++◌, OnOk};
+ghost use Rattle.runs.specs.Book.{ask, strike, look, wipe, new_book, nothing_loaded};
+ghost use Rattle.desk_book.specs.Desks.{desk_book, desk_bytes};
+ghost use Rattle.desk_book.specs.Loaded.{bytes_of, no_bytes};
+ghost use Rattle.desk_book.specs.Reasons.{WhyLines};
+ghost use Rattle.desk_book.specs.Told.{Answered, LoadAnswered, finder_of, refusal_line};
+ghost use Rattle.desk_book.specs.Winners.{AllTold};
+
 use super::Desk;
+use crate::asking::add_told;
 use crate::names::{named, rule_count};
-use crate::winners::{Next, next_winner};
+use crate::reasons::add_sheet;
+use crate::winners::strike_winners;
 use book::book::Book;
 use book::told::Refusal;
 use closure::row::Row;
-use deciding::deciding::{is_coherent, plan_shown};
 use desk_text::lines::{
-    add_loaded, add_pair, add_reason, add_reasons, add_refused, add_sizes, add_struck,
-    add_struck_plan, add_winners, wiped_line,
+    add_fault, add_loaded, add_pair, add_refused, add_struck, add_struck_plan, wiped_line,
 };
 use finders::branching::Branching;
 use finders::counting::Counting;
 use finders::finder::Finder;
-use listing_text::lines::add_set;
 use listing_text::words::Order;
 use loading::sources::Three;
-use reading::table::Atom;
-use report::lines::report_lines;
 use site_files::files::lent;
 use std::alloc::{AllocError, Global};
 
+// The kind as the book takes it; a number that is no byte is no kind, like 0.
+fn kind_byte(kind: usize) -> u8
+    ensures { (result ≡ kind) ⊎ ((result ≡ 0) × (255 < kind)) }
+{
+    match u8::try_from(kind) {
+        Ok(kind) => kind,
+        Err(_) => 0,
+    }
+}
+
+// Adds the line of the refusal where nothing is loaded.
+fn add_unloaded(heap: Global, out: &mut Vec<u8>) -> Result<(), AllocError>
+    ensures { OnOk result (out.new.items ≡ out.old.items ++ refusal_line nothing_loaded) }
+{
+    add_refused(heap, out, Refusal::NothingLoaded.cause())
+}
+
 impl Desk {
     // A desk with a new book.
-    pub fn new(heap: Global) -> Desk {
+    pub fn new(heap: Global) -> Desk
+        ensures empty { desk_book result ≡ new_book }
+        ensures bytes { desk_bytes result ≡ no_bytes }
+    {
         Desk {
             book: Book::new(),
             texts: Three {
@@ -41,55 +66,52 @@ impl Desk {
         side: u8,
         texts: Three<Vec<u8>>,
         out: &mut Vec<u8>,
-    ) -> Result<(), AllocError> {
+    ) -> Result<(), AllocError>
+        ensures { LoadAnswered side (bytes_of texts) self.old self.new out.old.items out.new.items result }
+    {
         match self.book.load(heap, side, lent(&texts)) {
             Ok(()) => {
                 self.texts = texts;
                 let texts = named(heap, &self.texts)?;
                 add_loaded(heap, out, rule_count(&texts), texts.atoms().entries().len())
             }
-            Err(fault) => {
-                let line = format!(in heap; "{fault}\n")?;
-                out.extend_from_slice(line.as_bytes())?;
-                Ok(())
-            }
+            Err(fault) => add_fault(heap, out, fault),
         }
     }
 
     // Asks with the finder of this order.
-    pub fn ask(&mut self, heap: Global, order: Order, out: &mut Vec<u8>) -> Result<(), AllocError> {
+    pub fn ask(&mut self, heap: Global, order: Order, out: &mut Vec<u8>) -> Result<(), AllocError>
+        ensures { Answered (ask (finder_of order)) self.old self.new out.old.items out.new.items result }
+    {
         match order {
             Order::Counting => self.ask_by(heap, &Counting, out),
             Order::Branching => self.ask_by(heap, &Branching, out),
         }
     }
 
+    // Asks with this finder.
     fn ask_by<F: Finder<96>>(
         &mut self,
         heap: Global,
         finder: &F,
         out: &mut Vec<u8>,
-    ) -> Result<(), AllocError> {
+    ) -> Result<(), AllocError>
+        ensures { Answered (ask (F.meaning finder.now)) self.old self.new out.old.items out.new.items result }
+    {
         let mut row = Row::clear();
-        let told = match self.book.ask(finder, &mut row) {
-            Ok(told) => told,
-            Err(refusal) => return add_refused(heap, out, refusal.cause()),
-        };
-        let texts = named(heap, &self.texts)?;
-        let shown = plan_shown(told.verdict, row);
-        let lines = report_lines(
-            heap,
-            is_coherent(told.coherence),
-            shown,
-            texts.atoms().entries(),
-        )
-        .map_err(|_| AllocError)?;
-        out.extend_from_slice(lines.as_slice())?;
-        add_sizes(heap, out, told.pairs, told.struck)
+        match self.book.ask(finder, &mut row) {
+            Ok(told) => {
+                let texts = named(heap, &self.texts)?;
+                add_told(heap, out, told, row, texts.atoms().entries())
+            }
+            Err(refusal) => add_refused(heap, out, refusal.cause()),
+        }
     }
 
     // Strikes the plan shown.
-    pub fn strike(&mut self, heap: Global, out: &mut Vec<u8>) -> Result<(), AllocError> {
+    pub fn strike(&mut self, heap: Global, out: &mut Vec<u8>) -> Result<(), AllocError>
+        ensures { Answered strike self.old self.new out.old.items out.new.items result }
+    {
         match self.book.strike() {
             Ok(()) => add_struck(heap, out, self.book.struck()),
             Err(refusal) => add_refused(heap, out, refusal.cause()),
@@ -97,7 +119,9 @@ impl Desk {
     }
 
     // Forgets the struck plans, the sheet and the plan shown.
-    pub fn wipe(&mut self, out: &mut Vec<u8>) -> Result<(), AllocError> {
+    pub fn wipe(&mut self, out: &mut Vec<u8>) -> Result<(), AllocError>
+        ensures { Answered wipe self.old self.new out.old.items out.new.items result }
+    {
         self.book.wipe();
         out.extend_from_slice(wiped_line())?;
         Ok(())
@@ -110,10 +134,12 @@ impl Desk {
         kind: usize,
         place: usize,
         out: &mut Vec<u8>,
-    ) -> Result<(), AllocError> {
+    ) -> Result<(), AllocError>
+        ensures { Answered (look kind place) self.now self.now out.old.items out.new.items result }
+    {
         let mut first = Row::clear();
         let mut second = Row::clear();
-        let kind = u8::try_from(kind).unwrap_or(0);
+        let kind = kind_byte(kind);
         if let Err(refusal) = self.book.look(kind, place, &mut first, &mut second) {
             return add_refused(heap, out, refusal.cause());
         }
@@ -127,43 +153,25 @@ impl Desk {
     }
 
     // Tells the reasons on the sheet.
-    pub fn why(&self, heap: Global, out: &mut Vec<u8>) -> Result<(), AllocError> {
+    pub fn why(&self, heap: Global, out: &mut Vec<u8>) -> Result<(), AllocError>
+        ensures { OnOk result ((lines : List ℕ) × WhyLines (desk_book self.now) (desk_bytes self.now) lines × (out.new.items ≡ out.old.items ++ lines)) }
+    {
         if !self.book.is_loaded() {
-            return add_refused(heap, out, Refusal::NothingLoaded.cause());
+            return add_unloaded(heap, out);
         }
         let texts = named(heap, &self.texts)?;
-        let pairs = self.book.pairs();
-        for place in 0..pairs {
-            self.add_reason_at(out, texts.atoms().entries(), place)?;
-        }
-        add_reasons(heap, out, pairs)
-    }
-
-    // The reason at a place of the sheet.
-    fn add_reason_at(
-        &self,
-        out: &mut Vec<u8>,
-        atoms: &[Atom<'_>],
-        place: usize,
-    ) -> Result<(), AllocError> {
-        let mut plan = Row::clear();
-        let mut reply = Row::clear();
-        let _ = self.book.look(1, place, &mut plan, &mut reply);
-        add_reason(out, atoms, &plan, &reply)
+        add_sheet(heap, &self.book, out, texts.atoms().entries())
     }
 
     // Asks and strikes until no plan is left, and tells each winning plan.
-    pub fn all(&mut self, heap: Global, out: &mut Vec<u8>) -> Result<(), AllocError> {
-        for plans in 0..=64 {
-            match next_winner(&mut self.book) {
-                Next::Winner(plan) => {
-                    let texts = named(heap, &self.texts)?;
-                    add_set(out, texts.atoms(), &plan)?;
-                }
-                Next::End(ending) => return add_winners(heap, out, plans, ending),
-                Next::Refused(refusal) => return add_refused(heap, out, refusal.cause()),
-            }
+    pub fn all(&mut self, heap: Global, out: &mut Vec<u8>) -> Result<(), AllocError>
+        ensures told { OnOk result (AllTold (desk_book self.old) (desk_book self.new) (desk_bytes self.old) out.old.items out.new.items) }
+        ensures bytes { desk_bytes self.new ≡ desk_bytes self.old }
+    {
+        if !self.book.is_loaded() {
+            return add_unloaded(heap, out);
         }
-        Ok(())
+        let texts = named(heap, &self.texts)?;
+        strike_winners(heap, &mut self.book, out, texts.atoms())
     }
 }

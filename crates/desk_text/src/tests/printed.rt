@@ -1,13 +1,13 @@
 // The lines that are printed go behind what was there.
 use crate::lines::{
-    add_loaded, add_pair, add_reason, add_reasons, add_refused, add_sizes, add_struck,
+    add_fault, add_loaded, add_pair, add_reason, add_reasons, add_refused, add_sizes, add_struck,
     add_struck_plan, add_winners, help_lines, no_command_line, unread_line, wiped_line,
 };
 use closure::row::Row;
 use listing_text::lines::Ending;
 use reading::table::Atoms;
 use reading::text::read_text;
-use refusals::fault::Text;
+use refusals::fault::{Fault, Text};
 use std::test::Fail;
 
 #[test]
@@ -16,12 +16,21 @@ fn numbers(rt: HostRuntime) -> Result<(), Fail> {
     let mut out = Vec::new(heap);
     add_loaded(heap, &mut out, 6, 5)?;
     add_refused(heap, &mut out, 11)?;
+    add_fault(
+        heap,
+        &mut out,
+        Fault::Misplaced {
+            text: Text::Faults,
+            at: 12,
+        },
+    )?;
     add_sizes(heap, &mut out, 256, 64)?;
     add_struck(heap, &mut out, 1)?;
     add_winners(heap, &mut out, 3, Ending::Complete)?;
     add_winners(heap, &mut out, 64, Ending::Stopped)?;
     let lines = b"% loaded 6 rules, 5 atoms\n\
 % refused 11 text 0 byte 0\n\
+% refused 5 text 2 byte 12\n\
 % pairs 256 struck 64\n\
 % struck 1\n\
 % 3 winning plans\n\
