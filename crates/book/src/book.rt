@@ -2,6 +2,7 @@
 use crate::open::Open;
 
 pub mod calls;
+pub mod sizes;
 
 #[derive(Drop)]
 pub struct Book {

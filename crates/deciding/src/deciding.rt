@@ -13,7 +13,8 @@ use refusals::fault::Fault;
 use report::verdict::report;
 use std::alloc::Global;
 
-fn plan_shown(verdict: Verdict, row: Row<96>) -> Option<Row<96>>
+// The plan shown, where the verdict is that one is.
+pub fn plan_shown(verdict: Verdict, row: Row<96>) -> Option<Row<96>>
     ensures { ShownBy (verdict_model verdict) row.marks (row_shown result) }
 {
     match verdict {
@@ -22,7 +23,8 @@ fn plan_shown(verdict: Verdict, row: Row<96>) -> Option<Row<96>>
     }
 }
 
-fn is_coherent(coherence: Coherence) -> bool
+// Is it said that the texts are coherent?
+pub fn is_coherent(coherence: Coherence) -> bool
     ensures { result ≡ says_coherent (coherence_model coherence) }
 {
     coherence == Coherence::Coherent

@@ -1,5 +1,5 @@
 // The lines that tell a listing.
-ghost use Rattle.std.specs.Prelude.{◌≡◌, [], ◌++◌, IfOk, string_bytes, codes, OnOk};
+ghost use Rattle.std.specs.Prelude.{◌≡◌, ◌++◌, IfOk, string_bytes, codes, OnOk};
 ghost use Rattle.reading.specs.Tables.{standings, standings_of};
 ghost use Rattle.listing_text.specs.Lines.{names_from, dotted, set_line, count_line, refused_line};
 
@@ -27,11 +27,16 @@ fn add_atom(out: &mut Vec<u8>, lead: &[u8], name: &[u8]) -> Result<(), AllocErro
     Ok(())
 }
 
-// Adds the names of the set's atoms, each with a dot, with a space between.
-fn add_atoms(out: &mut Vec<u8>, entries: &[Atom<'_>], set: &Row<96>) -> Result<(), AllocError>
-    ensures { OnOk result (out.new.items ≡ out.old.items ++ dotted [] (names_from 0 (standings entries.now) set.now.marks)) }
+// Adds the names of the set's atoms, each with a dot; `first` stands before the first, and a space before each further one.
+pub fn add_atoms(
+    out: &mut Vec<u8>,
+    first: &[u8],
+    entries: &[Atom<'_>],
+    set: &Row<96>,
+) -> Result<(), AllocError>
+    ensures { OnOk result (out.new.items ≡ out.old.items ++ dotted first.now (names_from 0 (standings entries.now) set.now.marks)) }
 {
-    let mut lead: &[u8] = b"";
+    let mut lead = first;
     for (i, atom) in entries.iter().enumerate() {
         if set.at(i) {
             add_atom(out, lead, atom.name)?;
@@ -45,7 +50,7 @@ fn add_atoms(out: &mut Vec<u8>, entries: &[Atom<'_>], set: &Row<96>) -> Result<(
 pub fn add_set(out: &mut Vec<u8>, atoms: &Atoms<'_>, set: &Row<96>) -> Result<(), AllocError>
     ensures { OnOk result (out.new.items ≡ out.old.items ++ set_line (standings_of atoms.now) set.now.marks) }
 {
-    add_atoms(out, atoms.entries(), set)?;
+    add_atoms(out, b"", atoms.entries(), set)?;
     out.extend_from_slice(b"\n")?;
     Ok(())
 }

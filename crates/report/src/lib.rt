@@ -3,5 +3,5 @@
 
 pub mod input;
 mod known;
-mod lines;
+pub mod lines;
 pub mod verdict;

@@ -33,7 +33,7 @@ fn put_atoms(lines: &mut Vec<u8>, atoms: &[Atom<'_>], row: &Row<96>) -> Result<(
 }
 
 // The whole report, over the table of atoms.
-pub(crate) fn report_lines(
+pub fn report_lines(
     heap: Global,
     coherent: bool,
     shown: Option<Row<96>>,

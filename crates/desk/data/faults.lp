@@ -1,0 +1,2 @@
+cut :- not quiet.
+quiet :- not cut.

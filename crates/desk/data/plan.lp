@@ -1,0 +1,2 @@
+radio :- not wire.
+wire :- not radio.

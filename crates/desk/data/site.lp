@@ -1,0 +1,2 @@
+dead :- wire, cut.
+:- dead.

@@ -1,0 +1,6 @@
+pub mod Loaded
+pub mod Desks
+pub mod Asked
+pub mod Told
+pub mod Reasons
+pub mod Winners

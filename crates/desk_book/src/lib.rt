@@ -1,0 +1,8 @@
+// The book from the keyboard: its calls, told in lines.
+#![tactic(auto)]
+
+mod asking;
+pub mod desk;
+mod names;
+mod reasons;
+mod winners;
