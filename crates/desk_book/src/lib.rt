@@ -5,4 +5,6 @@ mod asking;
 pub mod desk;
 mod names;
 mod reasons;
+#[cfg(test)]
+mod tests;
 mod winners;

@@ -1,0 +1,4 @@
+// Sessions at the desk.
+mod refused;
+mod sessions;
+mod texts;
