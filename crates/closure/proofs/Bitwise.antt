@@ -52,16 +52,16 @@ pub bit_row-or : (m n : ℕ) → bit_row (bit_or m n) ≡ union (bit_row m) (bit
 bit_row-or m n =
     bit_row_from (bit_or m n) (union (bit_row m) (bit_row n)) (length-union 96 (bit_row m) (bit_row n) (length-bit_row m) (length-bit_row n))
     (λ a below.
-        ap (λ x. x == 1) (bit_at_or m n a) ∙ or_bits _ _ (bit_at-lt m a) (bit_at-lt n a)
-        ∙ sym (get_or-union (bit_row m) (bit_row n) a ∙ ap (λ b. b || get_or (bit_row n) a false) (mark_below m a below) ∙ ap (λ b. bit_at m a == 1 || b) (mark_below n a below)))
+    ap (λ x. x == 1) (bit_at_or m n a) ∙ or_bits _ _ (bit_at-lt m a) (bit_at-lt n a)
+    ∙ sym (get_or-union (bit_row m) (bit_row n) a ∙ ap (λ b. b || get_or (bit_row n) a false) (mark_below m a below) ∙ ap (λ b. bit_at m a == 1 || b) (mark_below n a below)))
 
 pub bit_row-minus : (m n : ℕ) → n < 2 ^ 96 → bit_row (bit_and m (bit_not w128 n)) ≡ minus (bit_row m) (bit_row n)
 bit_row-minus m n small =
     bit_row_from (bit_and m (bit_not w128 n)) (minus (bit_row m) (bit_row n)) (length-minus (bit_row m) (bit_row n) ∙ length-bit_row m)
     (λ a below.
-        ap (λ x. x == 1) (bit_at_and m (bit_not w128 n) a) ∙ and_bits _ _ (bit_at-lt m a) (bit_at-lt (bit_not w128 n) a)
-        ∙ ap (λ b. bit_at m a == 1 && b) (ap (λ x. x == 1) (bit_at_not w128 n a (omega arith) (omega arith)) ∙ flipped _ (bit_at-lt n a))
-        ∙ sym (get_or-minus (bit_row m) (bit_row n) a ∙ ap (λ b. b && not (get_or (bit_row n) a false)) (mark_below m a below) ∙ ap (λ b. bit_at m a == 1 && not b) (mark_below n a below)))
+    ap (λ x. x == 1) (bit_at_and m (bit_not w128 n) a) ∙ and_bits _ _ (bit_at-lt m a) (bit_at-lt (bit_not w128 n) a)
+    ∙ ap (λ b. bit_at m a == 1 && b) (ap (λ x. x == 1) (bit_at_not w128 n a (omega arith) (omega arith)) ∙ flipped _ (bit_at-lt n a))
+    ∙ sym (get_or-minus (bit_row m) (bit_row n) a ∙ ap (λ b. b && not (get_or (bit_row n) a false)) (mark_below m a below) ∙ ap (λ b. bit_at m a == 1 && not b) (mark_below n a below)))
 
 -- one atom more
 pub bit_row-set : (n k : ℕ) → k < 96 → bit_row (bit_or n (1 * 2 ^ k % 2 ^ 128)) ≡ set (bit_row n) k true
@@ -107,7 +107,7 @@ within_bits m n small small' = (
       let low = bit_at-lt n a in
       in_from_bit n a small' (omega (arith, one, both, low)),
   λ w. eq-eqb (bit_and m n) m
-      (same_from_bits_below 96 (bit_and m n) m (and_small m n small) small (λ i below. bit_at_and m n i ∙ kept i w))
+      (same_from_bits_below 96 (bit_and m n) m (and_small m n small) small (λ i below. bit_at_and m n i ∙ kept i w)),
 )
   where
     kept : (i : ℕ) → Within (bit_row m) (bit_row n) → min (bit_at m i) (bit_at n i) ≡ bit_at m i
@@ -123,7 +123,7 @@ apart_bits m n small small' = (
       let none : 0 ≡ min (bit_at m a) (bit_at n a) = sym (bit_at-zero a) ∙ ap (λ x. bit_at x a) (sym (eqb-true (bit_and m n) 0 e)) ∙ bit_at_and m n a in
       absurd (omega (arith, one, two, none)),
   λ out. eq-eqb (bit_and m n) 0
-      (same_from_bits_below 96 (bit_and m n) 0 (and_small m n small) (omega arith) (λ i below. bit_at_and m n i ∙ lost i out ∙ sym (bit_at-zero i)))
+      (same_from_bits_below 96 (bit_and m n) 0 (and_small m n small) (omega arith) (λ i below. bit_at_and m n i ∙ lost i out ∙ sym (bit_at-zero i))),
 )
   where
     lost : (i : ℕ) → ((a : ℕ) → In a (bit_row m) → In a (bit_row n) → ⊥) → min (bit_at m i) (bit_at n i) ≡ 0

@@ -6,7 +6,7 @@ use Rattle.game.specs.Rules.{Rule, Kept, Obeys}
 use Rattle.game.specs.AnswerSets.{Smallest}
 use Rattle.game.proofs.Deriving.{plain_grows}
 use Rattle.closure.specs.Rows.{minus}
-use Rattle.closure.proofs.Marks.{in_minus, minus_in, in_union, union_left, union_right, length-union, same_rows}
+use Rattle.closure.proofs.Marks.{in_minus, minus_in, in_union, union_left, length-union}
 use Rattle.solving.specs.Bounds.{Broken}
 use Rattle.finders.specs.Between.{Between, Narrower}
 

@@ -1,5 +1,5 @@
 -- A set of heads is tried, as a mask.
-use Rattle.std.proofs.Common.{◌≡◌, ℕ, ◌<◌, false, true, List, length, get_or, ap, ◌∙◌}
+use Rattle.std.proofs.Common.{◌≡◌, ℕ, false, true, List, get_or, ap, ◌∙◌}
 use Rattle.game.specs.Rules.{Rule, is_head}
 use Rattle.game.proofs.Rows.{row}
 use Rattle.closure.specs.Bits.{bit_row, length-bit_row}

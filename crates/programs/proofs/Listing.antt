@@ -1,15 +1,11 @@
 -- Lists of atoms as rows: what holds of every atom on the list, and when a rule fires.
-use Rattle.std.proofs.Common.{◌≡◌, ℕ, ◌+◌, ◌<◌, Bool, true, false, ◌||◌, eqb, ltb, List, [], ◌∷◌, length, get_or, drop, set, replicate, Decides, ◌↔◌, sym, refl, ap, ◌∙◌, subst, ⊎_elim, arith}
+use Rattle.std.proofs.Common.{◌≡◌, ℕ, ◌<◌, Bool, true, false, eqb, ltb, List, [], ◌∷◌, length, get_or, Decides, ◌↔◌, sym, refl, ◌∙◌, subst, ⊎_elim}
 use Rattle.std.specs.List.{AllByRecursion}
-use Rattle.std.proofs.lemmas.List.{ext_get_or, at_drop_all, at_drop_more, length-replicate, length-set}
 use Rattle.std.proofs.lemmas.Bool.{and_parts, or_cases, or_left, or_right, ltb-true, eqb-true, eq-eqb, false≢true}
 use Rattle.std.proofs.lemmas.Bool.Decides.{Decides-like}
-use Rattle.std.proofs.Math.Bool.{or-false}
-use Rattle.game.specs.Sets.{Row, In, Within}
+use Rattle.game.specs.Sets.{Row, In}
 use Rattle.game.specs.Rules.{Rule, among, Kept, PlainIn}
-use Rattle.game.specs.Derives.{fires}
-use Rattle.game.proofs.Rows.{row, length-row, in_width}
-use Rattle.game.proofs.Deriving.{fires_decides}
+use Rattle.game.proofs.Rows.{length-row, in_width}
 use Rattle.closure.proofs.Marks.{get_or-row}
 use Rattle.programs.specs.Limits.{all_below, rule_fits}
 use Rattle.programs.proofs.Fitting.{kept}

@@ -5,7 +5,7 @@ use Rattle.game.proofs.Rows.{row}
 use Rattle.closure.specs.Bits.{bit_row}
 use Rattle.closure.specs.declared.mask.Mask.{Mask}
 use Rattle.programs.specs.declared.mask_rule.MaskRule.{MaskRule}
-use Rattle.programs.specs.Listed.{RowRule, in_rows}
+use Rattle.programs.specs.Listed.{in_rows}
 use Rattle.programs.specs.MaskRules.{mask_rule}
 
 -- the first `count` masks are the rules in their order, and `heads` is the set of their heads

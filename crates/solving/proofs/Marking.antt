@@ -1,12 +1,12 @@
 -- One turn of the loop that marks the heads of picked rules.
-use Rattle.std.proofs.Common.{◌≡◌, ℕ, ◌+◌, ◌<◌, ◌≤◌, Bool, true, false, ◌&&◌, ◌||◌, eqb, List, [], ◌∷◌, length, get_or, drop, set, replicate, sym, refl, ap, ◌∙◌, subst, ⊎_elim, arith}
-use Rattle.std.proofs.lemmas.List.{at_drop_more, at_drop_all, get_or-set_same, get_or-set_other, get_or-replicate, get_or_past, length-replicate}
-use Rattle.std.proofs.lemmas.Bool.{cases_eq, cases_lt, eq-eqb, ne_eqb, false≢true}
+use Rattle.std.proofs.Common.{◌≡◌, ℕ, ◌+◌, ◌<◌, ◌≤◌, Bool, true, false, ◌&&◌, ◌||◌, eqb, List, [], ◌∷◌, length, get_or, drop, replicate, sym, refl, ap, ◌∙◌, subst, ⊎_elim, arith}
+use Rattle.std.proofs.lemmas.List.{at_drop_more, at_drop_all, get_or-replicate, get_or_past, length-replicate}
+use Rattle.std.proofs.lemmas.Bool.{cases_eq, cases_lt, ne_eqb, false≢true}
 use Rattle.game.specs.Sets.{Row}
 use Rattle.game.specs.Rules.{Head, Rule, heads, is_head, none, atom}
 use Rattle.game.specs.Derives.{fires, derives, derives_at, SmallestClosed}
 use Rattle.solving.specs.Levels.{level_in, head_at}
-use Rattle.std.proofs.Math.Bool.{or-true, or-false, and-true, and-false, and-or_distrib_left}
+use Rattle.std.proofs.Math.Bool.{or-false, and-true, and-false, and-or_distrib_left}
 use Rattle.std.proofs.Math.Path.{fun_ext}
 use Rattle.programs.specs.declared.rule.Rule as code
 use Rattle.programs.specs.Model.{model, models}

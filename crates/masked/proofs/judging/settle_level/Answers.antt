@@ -1,4 +1,4 @@
-use Rattle.std.proofs.Common.{ap, subst}
+use Rattle.std.proofs.Common.{subst}
 use Rattle.game.specs.Derives.{SmallestClosed, derives_at}
 use Rattle.closure.specs.Bits.{bit_row}
 use Rattle.programs.specs.Programs.{rules_of}

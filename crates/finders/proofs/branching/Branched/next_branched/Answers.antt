@@ -1,6 +1,6 @@
 use Rattle.std.proofs.Common.{ap, sym, subst, ◌∙◌}
 use Rattle.std.proofs.lemmas.Bool.Decides.{not_from_Decides}
-use Rattle.game.specs.Sets.{Row, union}
+use Rattle.game.specs.Sets.{union}
 use Rattle.game.specs.AnswerSets.{AnswerSet}
 use Rattle.closure.specs.Bits.{bit_row}
 use Rattle.programs.specs.Programs.{rules_of}

@@ -1,4 +1,4 @@
-use Rattle.std.proofs.Common.{◌≡◌, true, refl, length, set, sym, ap, ◌∙◌}
+use Rattle.std.proofs.Common.{true, refl, length, set, sym, ap, ◌∙◌}
 use Rattle.game.specs.Sets.{union}
 use Rattle.closure.specs.Bits.{bit_row, length-bit_row}
 use Rattle.closure.specs.Rows.{minus}

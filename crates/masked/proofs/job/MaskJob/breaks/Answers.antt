@@ -1,9 +1,8 @@
-use Rattle.std.proofs.Common.{◌≡◌, true, false, ◌&&◌, ◌||◌, List, ◌∷◌, length, get_or, map, take, sym, refl, ap, ◌∙◌, arith}
+use Rattle.std.proofs.Common.{true, ◌&&◌, ◌||◌, map, take, sym, ap, ◌∙◌, arith}
 use Rattle.std.proofs.lemmas.Bool.Decides.{Decides-at}
 use Rattle.closure.specs.Bits.{bit_row}
 use Rattle.game.specs.Derives.{fires}
 use Rattle.programs.specs.Model.{model, models}
-use Rattle.programs.specs.Programs.{rules_of}
 use Rattle.programs.proofs.Scans.{stops, goes, ends}
 use Rattle.programs.specs.declared.rule.Rule as code
 use Rattle.solving.specs.Tests.{constraint, violated_on}
@@ -23,8 +22,8 @@ returns-then-is_broken c =
     Decides-at _ _
     (stops (λ l. violated_on (models l) x s) rs i c.loop-rule.invariant t.rule true t.inside
     (λ rest.
-        ap (λ (q : code.Rule). (constraint (model q).head && fires x s (model q)) || violated_on (models rest) x s) (sym t.is)
-        ∙ ap (λ b. b || violated_on (models rest) x s) (sym (same_broken x s t _ c.is_broken.ensures) ∙ c.if-is_broken.true)))
+    ap (λ (q : code.Rule). (constraint (model q).head && fires x s (model q)) || violated_on (models rest) x s) (sym t.is)
+    ∙ ap (λ b. b || violated_on (models rest) x s) (sym (same_broken x s t _ c.is_broken.ensures) ∙ c.if-is_broken.true)))
     (violated_decides (models rs) x s)
 
 pub loop-rule-preserved : goal.loop-rule-preserved
@@ -37,8 +36,8 @@ loop-rule-preserved c =
     let t = told_at rs c.rules-rule-items.result.now (all_kept (models rs) job.program.now.kept) (ap (map mask_rule) (c.rules-rule-items.ensures ∙ ap (λ m. take m.count m.rules) c.masks.ensures) ∙ job.program.now.same.0) i c.rule-item.result c.loop-rule-test.true c.rule-item.is in
     goes (λ l. violated_on (models l) x s) rs i c.loop-rule.invariant t.rule t.inside
     (λ rest.
-        ap (λ (q : code.Rule). (constraint (model q).head && fires x s (model q)) || violated_on (models rest) x s) (sym t.is)
-        ∙ ap (λ b. b || violated_on (models rest) x s) (sym (same_broken x s t _ c.is_broken.ensures) ∙ c.if-is_broken.false))
+    ap (λ (q : code.Rule). (constraint (model q).head && fires x s (model q)) || violated_on (models rest) x s) (sym t.is)
+    ∙ ap (λ b. b || violated_on (models rest) x s) (sym (same_broken x s t _ c.is_broken.ensures) ∙ c.if-is_broken.false))
 
 pub returns : goal.returns
 returns c =

@@ -1,6 +1,6 @@
-use Rattle.std.proofs.Common.{◌≡◌, not, sym, subst, ap, ◌∙◌}
+use Rattle.std.proofs.Common.{sym, subst, ap, ◌∙◌}
 use Rattle.std.proofs.lemmas.Bool.Decides.{Decides-not, Decides-like}
-use Rattle.game.specs.Sets.{Row, Within}
+use Rattle.game.specs.Sets.{Within}
 use Rattle.closure.specs.Bits.{bit_row, length-bit_row}
 use Rattle.closure.proofs.Marks.{union_left, within_union}
 use Rattle.programs.specs.Programs.{rules_of}

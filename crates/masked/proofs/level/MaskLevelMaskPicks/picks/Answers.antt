@@ -1,11 +1,8 @@
 use Rattle.std.proofs.Common.{◌≡◌, true, ◌&&◌, sym, ap, ◌∙◌}
 use Rattle.std.proofs.lemmas.Bool.{eq-eqb}
-use Rattle.game.specs.Rules.{Rule}
 use Rattle.game.specs.Derives.{fires}
 use Rattle.closure.specs.Bits.{bit_row}
-use Rattle.programs.specs.Limits.{rule_fits}
-use Rattle.programs.specs.Listed.{RowRule, in_rows}
-use Rattle.programs.specs.MaskRules.{mask_rule}
+use Rattle.programs.specs.Listed.{RowRule}
 use Rattle.programs.specs.Model.{head_model}
 use Rattle.solving.specs.Levels.{head_at}
 use Rattle.masked.proofs.Matching.{same_fires}

@@ -1,5 +1,5 @@
-use Rattle.std.proofs.Common.{◌≡◌, ◌+◌, ◌<◌, ◌≤◌, true, false, ◌||◌, length, get_or, drop, map, take, sym, ap, ◌∙◌, arith}
-use Rattle.game.specs.Rules.{Head, heads}
+use Rattle.std.proofs.Common.{◌≡◌, ◌+◌, false, ◌||◌, get_or, drop, map, take, sym, ap, ◌∙◌, arith}
+use Rattle.game.specs.Rules.{heads}
 use Rattle.closure.specs.Bits.{bit_row, length-bit_row}
 use Rattle.closure.specs.declared.mask.Mask.{Mask}
 use Rattle.closure.proofs.Marks.{get_or-row, get_or-union}

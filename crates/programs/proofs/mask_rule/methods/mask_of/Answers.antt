@@ -1,4 +1,4 @@
-use Rattle.std.proofs.Common.{◌≡◌, ◌+◌, ◌<◌, false, ◌||◌, eqb, length, get_or, drop, sym, ap, ◌∙◌, arith}
+use Rattle.std.proofs.Common.{◌+◌, ◌<◌, false, ◌||◌, eqb, get_or, drop, sym, ap, ◌∙◌, arith}
 use Rattle.std.proofs.lemmas.List.{ext_get_or, get_or-replicate, at_drop_more, at_drop_all}
 use Rattle.std.proofs.Math.Bool.{or-false}
 use Rattle.game.specs.Rules.{among}
@@ -29,6 +29,6 @@ returns c =
     let atoms = c.args.atoms.now in
     ext_get_or false (bit_row set.bits) (listed atoms) (length-bit_row set.bits ∙ sym (length-listed atoms))
     (λ k less.
-        let below : k < 96 = omega (arith, less, length-bit_row set.bits) in
-        sym (ap (λ b. get_or (bit_row set.bits) k false || b) (at_drop_all (among k) atoms c.loop-atom.atom-index c.loop-atom-test.false) ∙ or-false (get_or (bit_row set.bits) k false))
-        ∙ c.loop-atom.invariant k below ∙ sym (listed_mark atoms k below))
+    let below : k < 96 = omega (arith, less, length-bit_row set.bits) in
+    sym (ap (λ b. get_or (bit_row set.bits) k false || b) (at_drop_all (among k) atoms c.loop-atom.atom-index c.loop-atom-test.false) ∙ or-false (get_or (bit_row set.bits) k false))
+    ∙ c.loop-atom.invariant k below ∙ sym (listed_mark atoms k below))

@@ -12,9 +12,9 @@ returns-in-Some c =
     let h = c.in-Some.atom in
     row_from 96 (λ a. heads a (head_model c.args.head)) (bit_row c.with.result.bits) (length-bit_row c.with.result.bits)
     (λ a less.
-        ap (λ s. get_or s a false) c.with.ensures ∙ marked_more none h a (omega (arith, less, length-bit_row c.clear.result.bits))
-        ∙ ap (λ s. get_or s a false || eqb a h) c.clear.ensures ∙ ap (λ b. b || eqb a h) (get_or-replicate 96 a false false less)
-        ∙ sym (ap (λ o. heads a (head_model o)) c.in-Some.is))
+    ap (λ s. get_or s a false) c.with.ensures ∙ marked_more none h a (omega (arith, less, length-bit_row c.clear.result.bits))
+    ∙ ap (λ s. get_or s a false || eqb a h) c.clear.ensures ∙ ap (λ b. b || eqb a h) (get_or-replicate 96 a false false less)
+    ∙ sym (ap (λ o. heads a (head_model o)) c.in-Some.is))
 
 pub returns-in-None : goal.returns-in-None
 returns-in-None c =

@@ -1,4 +1,4 @@
-use Rattle.std.proofs.Common.{◌≡◌, ◌+◌, ◌<◌, false, ◌||◌, eqb, length, get_or, drop, sym, ap, ◌∙◌, arith}
+use Rattle.std.proofs.Common.{◌≡◌, ◌+◌, false, ◌||◌, eqb, get_or, drop, sym, ap, ◌∙◌, arith}
 use Rattle.std.proofs.lemmas.List.{get_or-replicate, at_drop_more, at_drop_all}
 use Rattle.std.proofs.Math.Bool.{or-false}
 use Rattle.game.specs.Rules.{heads, is_head}
@@ -39,5 +39,5 @@ returns c =
     let set = bit_row c.loop-rule.set.bits in
     row_from 96 (is_head (models rs)) set (length-bit_row c.loop-rule.set.bits)
     (λ a below.
-        sym (ap (λ b. get_or set a false || b) (at_drop_all (λ l. is_head (models l) a) rs c.loop-rule.rule-index c.loop-rule-test.false) ∙ or-false (get_or set a false))
-        ∙ c.loop-rule.invariant a below)
+    sym (ap (λ b. get_or set a false || b) (at_drop_all (λ l. is_head (models l) a) rs c.loop-rule.rule-index c.loop-rule-test.false) ∙ or-false (get_or set a false))
+    ∙ c.loop-rule.invariant a below)
