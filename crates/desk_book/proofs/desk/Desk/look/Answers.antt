@@ -1,4 +1,4 @@
-use Rattle.std.proofs.Common.{◌≡◌, ◌++◌, sym, refl, ap, ◌∙◌, subst, ⊎_elim, lit<}
+use Rattle.std.proofs.Common.{rules, ◌≡◌, ◌++◌, sym, refl, ap, ◌∙◌, subst, ⊎_elim, lit<}
 use Rattle.std.proofs.lemmas.Result.{on_ok_weaker}
 use Rattle.loading.specs.Read.{three_of}
 use Rattle.reading.specs.Tables.{standings}
@@ -32,6 +32,21 @@ named-requires c =
     let b = book_of d.book in
     let ((t, has), kinds) = looked c.kind_byte-kind.result c.args.place b b (wrote c.look.new.first.marks c.look.new.second.marks) c.in_default.ensures.goes in
     loaded_given b (bytes_of d.texts) t has d.kept
+
+pub returns-in_err-texts : goal.returns-in_err-texts
+returns-in_err-texts c =
+    let d = c.args.self.now in
+    let k = c.args.kind in
+    let n = c.args.place in
+    let b = book_of d.book in
+    let x = c.look.new.first.marks in
+    let y = c.look.new.second.marks in
+    record {
+      answer = wrote x y;
+      goes = any_kind c.kind_byte-kind.result k n b b (wrote x y) c.kind_byte-kind.ensures c.in_default.ensures.goes;
+      bytes = refl;
+      lines = search rules;
+    }
 
 pub returns-then-kind-eq1 : goal.returns-then-kind-eq1
 returns-then-kind-eq1 c =
