@@ -35,7 +35,7 @@ pub fn lent(files: &Three<Vec<u8>>) -> Sources<'_>
 }
 
 // What was read of a file; a missing file is empty.
-fn or_empty(heap: Global, read: io::Result<Vec<u8>>) -> io::Result<Vec<u8>>
+pub fn or_empty(heap: Global, read: io::Result<Vec<u8>>) -> io::Result<Vec<u8>>
     ensures { OrEmpty read result }
 {
     match read {

@@ -4,12 +4,20 @@ ghost use Rattle.std.specs.Io.KnownBytes.{Appends};
 ghost use Rattle.refusals.specs.Line.{line};
 
 use refusals::fault::Fault;
+use refusals::line::refusal_line;
 use std::io;
-use std::io::Write;
+use std::io::{ErrorKind, Write};
 
-// Writes the refusal's line.
+// Longer than any refusal's line: twenty-four fixed bytes, and three numbers of at most twenty digits.
+const LINE_ROOM: usize = 128;
+
+// Writes the refusal's line, whole and at once.
 pub fn write_refusal<W: Write>(out: &mut W, fault: Fault) -> io::Result<()>
     ensures { OnOk result (Appends (W.contents out.old) (W.contents out.new) (line fault)) }
 {
-    writeln!(out, "{fault}")
+    let mut line = [0u8; LINE_ROOM];
+    let Ok(length) = refusal_line(fault, &mut line) else {
+        return Err(io::Error::from(ErrorKind::WriteZero));
+    };
+    out.write_all(&line[0..length])
 }

@@ -3,7 +3,8 @@ use crate::files::{gathered, lent};
 use crate::input::first_byte;
 use crate::refusal::write_refusal;
 use refusals::fault::{Fault, Text};
-use std::io::{Error, ErrorKind};
+use std::io;
+use std::io::{Error, ErrorKind, Write};
 use std::test::Fail;
 
 #[test]
@@ -41,5 +42,30 @@ fn refusal_written(rt: HostRuntime) -> Result<(), Fail> {
     };
     write_refusal(&mut out, fault)?;
     assert_eq!(rt; out.as_slice(), b"% refused 5 text 1 byte 1\n".as_slice());
+    Ok(())
+}
+
+// A writer that counts what it is asked to write.
+#[derive(Drop)]
+struct Calls {
+    writes: usize,
+}
+
+impl Write for Calls {
+    fn write(&mut self, buf: &[u8]) -> io::Result<usize> {
+        self.writes = self.writes.saturating_add(1);
+        Ok(buf.len())
+    }
+
+    fn flush(&mut self) -> io::Result<()> {
+        Ok(())
+    }
+}
+
+#[test]
+fn refusal_at_once(rt: HostRuntime) -> Result<(), Fail> {
+    let mut out = Calls { writes: 0 };
+    write_refusal(&mut out, Fault::WrongSide)?;
+    assert_eq!(rt; out.writes, 1);
     Ok(())
 }
