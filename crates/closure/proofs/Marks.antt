@@ -3,11 +3,9 @@ use Rattle.std.proofs.Common.{◌≡◌, ℕ, zero, suc, ◌<◌, ◌≤◌, Boo
 use Rattle.std.proofs.lemmas.List.{ext_get_or, get_or_past, get_or-set_same, get_or-set_other}
 use Rattle.std.proofs.lemmas.Bool.{cases_lt, cases_eq, cases_Bool, eq-eqb, ne_eqb, both_ways, false≢true, or_cases, or_left, or_right, and_parts, and_from, not-true, not_from_false}
 use Rattle.std.proofs.Math.Bool.{beq, or-true, or-false}
-use Rattle.std.proofs.lemmas.List.Recursion.{is_count_by}
 use Rattle.std.specs.Bool.{Decides}
 use Rattle.std.specs.Cmp.{booleans_Decides}
 use Rattle.std.specs.Cmp.Lexicographic.{pointwise, pointwise_decides}
-use Rattle.std.specs.List.{count_by}
 use Rattle.game.specs.Sets.{Row, In, Within, union}
 use Rattle.game.proofs.Rows.{row, length-row}
 use Rattle.closure.specs.Rows.{marked, minus}
@@ -23,10 +21,6 @@ told_other s t r e = told_same s t (not r) (ap not e ∙ twice (pointwise beq s 
     twice : (b : Bool) → not (not b) ≡ b
     twice true = refl
     twice false = refl
-
--- the marks counted
-pub marked_counted : (s : Row) → marked s ≡ count_by (λ m. m) s
-marked_counted = is_count_by marked (λ m. m) refl (λ x s. ap (λ n. cond x n (marked s)) (omega arith))
 
 pub or_nothing : (x : Bool) → x ≡ (x || false)
 or_nothing true = refl

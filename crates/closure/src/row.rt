@@ -84,7 +84,13 @@ impl<const N: usize> Row<N> {
     pub fn count(&self) -> usize
         ensures { result ≡ marked self.now.marks }
     {
-        self.marks.iter().filter(|mark| **mark).count()
+        let mut n = 0;
+        for mark in &self.marks {
+            if *mark {
+                n += 1;
+            }
+        }
+        n
     }
 
     // The row with the given mark wherever the other row has one.
