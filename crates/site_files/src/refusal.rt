@@ -8,7 +8,7 @@ use refusals::line::refusal_line;
 use std::io;
 use std::io::{ErrorKind, Write};
 
-// Longer than any refusal's line: twenty-four fixed bytes, and three numbers of at most twenty digits.
+// Longer than any refusal's line: twenty-three fixed bytes, and three numbers of at most twenty digits.
 const LINE_ROOM: usize = 128;
 
 // Writes the refusal's line, whole and at once.
